@@ -1,0 +1,136 @@
+//! Times the ticks of a block on fixed inputs. Whatever can tick is timed by the same driver.
+use std::time::Instant;
+
+use crate::Kind;
+use Kind::*;
+
+/// A started block with its region.
+pub trait Ticking {
+    /// An emit, then an update.
+    fn tick(&mut self, time: f64, inputs: &[u64; 3]);
+    fn emit(&mut self, time: f64, inputs: &[u64; 3]);
+}
+
+pub struct Case {
+    pub name: &'static str,
+    pub kind: Kind,
+    pub settings: Vec<u64>,
+    /// Ticks a second.
+    rate: f64,
+    /// Ticks before the measurement.
+    warm: u64,
+    /// If not 0: time emits alone, this many seconds after the last tick, in the place of ticks.
+    ahead: f64,
+}
+
+fn case(name: &'static str, kind: Kind, settings: &[f64]) -> Case {
+    Case {
+        name,
+        kind,
+        settings: settings.iter().map(|x| x.to_bits()).collect(),
+        rate: 1.0,
+        warm: 10,
+        ahead: 0.0,
+    }
+}
+
+fn controller(name: &'static str, kind: Kind, mode: u64) -> Case {
+    let reals = [1.0, 0.5, 0.1, 1.0, 1.0, 0.0, 0.9, 10.0, 0.0, 0.0, 0.0];
+    let mut case = case(name, kind, &reals);
+    case.settings.insert(0, mode);
+    case.settings.push(1);
+    case
+}
+
+/// A moving average that has run for two windows.
+fn average(name: &'static str, delta: f64, rate: f64) -> Case {
+    Case {
+        rate,
+        warm: (2.0 * delta * rate) as u64 + 100,
+        ..case(name, MovingAverage, &[delta])
+    }
+}
+
+/// An emit whose window starts nine tenths of a window past the first point of the ring.
+fn walk(name: &'static str, delta: f64, rate: f64) -> Case {
+    Case {
+        ahead: delta * 0.9,
+        ..average(name, delta, rate)
+    }
+}
+
+/// All cases.
+#[must_use]
+pub fn cases() -> Vec<Case> {
+    let mut delay = case("TrueDelay", TrueDelay, &[2.0]);
+    delay.settings.push(0);
+    vec![
+        controller("Pid P", Pid, 0),
+        controller("Pid PI", Pid, 1),
+        controller("Pid PD", Pid, 2),
+        controller("Pid PID", Pid, 3),
+        controller("PidWithReset PI", PidWithReset, 1),
+        controller("PidWithReset PID", PidWithReset, 3),
+        average("MovingAverage 300 s", 300.0, 1.0),
+        average("MovingAverage 3600 s", 3600.0, 1.0),
+        average("MovingAverage 65536 s", 65536.0, 1.0),
+        average("MovingAverage 65536 s, 2 ticks/s", 65536.0, 2.0),
+        case("TimerAccumulating", TimerAccumulating, &[5.0]),
+        delay,
+        case("TrueFalseHold", TrueFalseHold, &[2.0, 2.0]),
+        case("TrueHoldWithReset", TrueHoldWithReset, &[2.0]),
+        case(
+            "LogicalVariablePulse",
+            LogicalVariablePulse,
+            &[60.0, 0.01, 1.0],
+        ),
+        walk("walk of 300 s", 300.0, 1.0),
+        walk("walk of 3600 s", 3600.0, 1.0),
+        walk("walk of 65536 s", 65536.0, 1.0),
+    ]
+}
+
+impl Case {
+    /// The inputs of tick n: small reals, and booleans that change every few ticks.
+    fn inputs(&self, n: u64) -> [u64; 3] {
+        let x = (n % 7) as f64 * 0.125;
+        let mut inputs = [0; 3];
+        for (i, item) in self.kind.inputs().bytes().enumerate() {
+            inputs[i] = match item {
+                b'r' => (x + i as f64 * 0.25).to_bits(),
+                _ => (n >> (2 + 2 * i)) & 1,
+            };
+        }
+        inputs
+    }
+
+    fn time(&self, n: u64) -> f64 {
+        n as f64 / self.rate
+    }
+
+    /// How many ticks, or emits of a walk, make a measurement.
+    #[must_use]
+    pub fn measured(&self) -> u64 {
+        if self.ahead > 0.0 {
+            (20_000_000.0 / self.ahead) as u64
+        } else {
+            400_000
+        }
+    }
+
+    /// Nanoseconds a tick, or an emit of a walk, over so many of them, from a fresh start.
+    pub fn nanoseconds(&self, block: &mut impl Ticking, ticks: u64) -> f64 {
+        for n in 0..self.warm {
+            block.tick(self.time(n), &self.inputs(n));
+        }
+        let began = Instant::now();
+        for n in self.warm..self.warm + ticks {
+            if self.ahead > 0.0 {
+                block.emit(self.time(self.warm) + self.ahead, &self.inputs(n));
+            } else {
+                block.tick(self.time(n), &self.inputs(n));
+            }
+        }
+        began.elapsed().as_nanos() as f64 / ticks as f64
+    }
+}

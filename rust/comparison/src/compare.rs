@@ -1,0 +1,189 @@
+//! Compares calls with the Rust, call by call, on generated settings, regions and ticks.
+//!
+//! The Rust refuses nothing: which number is due is document 01's, by the model. An accepted call
+//! must answer and write what the Rust does; a refused one must answer zeros and write nothing.
+//! The inputs depend on the seed alone, not on the calls that are compared.
+use crate::effects::effects;
+use crate::inputs::{self, Rng};
+use crate::oracle::Oracle;
+use crate::tally::{Class, Tally};
+use crate::{Answer, Calls, Kind, hex, model};
+
+/// Ticks in a run.
+const TICKS: u64 = 12;
+
+/// A comparison ends after so many differences.
+const ENOUGH: usize = 5;
+
+/// Compares so many runs: settings, a region of any words, perhaps a start, then ticks.
+#[must_use]
+pub fn compare(subject: &Calls, kind: Kind, runs: u64, seed: u64) -> Tally {
+    let mut r = Rng::new(seed, kind as u64);
+    let mut tally = Tally::default();
+    for _ in 0..runs {
+        run(subject, kind, &mut r, &mut tally);
+        if tally.differences.len() >= ENOUGH {
+            break;
+        }
+    }
+    tally
+}
+
+fn run(subject: &Calls, kind: Kind, r: &mut Rng, tally: &mut Tally) {
+    let settings = inputs::settings(r, kind);
+    let (refused, _) = model::state_length(kind, &settings);
+    let mut run = Run {
+        subject,
+        kind,
+        oracle: (refused == 0).then(|| Oracle::new(kind, &settings)),
+        region: inputs::region(r, kind, &settings),
+        settings,
+        time: 0,
+        inputs: [0; 3],
+        tally,
+    };
+    if !run.lengths_agree() {
+        return;
+    }
+    if r.one_in(4) {
+        run.start();
+    }
+    run.sound();
+    for _ in 0..TICKS {
+        run.time = inputs::tick_time(r, kind, &run.settings, &run.region);
+        run.inputs = inputs::tick_inputs(r, kind);
+        run.emit();
+        run.update();
+    }
+}
+
+/// One run as it stands: the Rust's words, and the tick that is due.
+struct Run<'a> {
+    subject: &'a Calls,
+    kind: Kind,
+    settings: Vec<u64>,
+    /// None if the settings are refused.
+    oracle: Option<Oracle>,
+    region: Vec<u64>,
+    time: u64,
+    inputs: [u64; 3],
+    tally: &'a mut Tally,
+}
+
+impl Run<'_> {
+    fn differs(&mut self, call: &str, what: String) {
+        let few = &self.region[..self.region.len().min(24)];
+        self.tally.differences.push(format!(
+            "{call} of {:?}, settings {} time {:016X} inputs {} region {}: {what}",
+            self.kind,
+            hex(&self.settings),
+            self.time,
+            hex(&self.inputs),
+            hex(few),
+        ));
+    }
+
+    /// Notes two answers that are not the same.
+    fn expect<T: PartialEq + std::fmt::Debug>(&mut self, call: &str, got: T, due: T) {
+        if got != due {
+            self.differs(call, format!("got {got:X?}, due {due:X?}"));
+        }
+    }
+
+    /// Notes the first word of the region that is not as due.
+    fn expect_words(&mut self, call: &str, got: &[u64], due: &[u64]) {
+        if let Some(n) = (0..due.len()).find(|&n| got[n] != due[n]) {
+            let what = format!("word {n}: got {:016X}, due {:016X}", got[n], due[n]);
+            self.differs(call, what);
+        }
+    }
+
+    /// The Rust's block, if the number is 0 and so it may be called.
+    fn accepted(&self, refused: u64) -> Option<&Oracle> {
+        self.oracle.as_ref().filter(|_| refused == 0)
+    }
+
+    fn lengths_agree(&mut self) -> bool {
+        let got = (self.subject.state_length)(self.kind, &self.settings);
+        let due = match &self.oracle {
+            Some(oracle) => (0, oracle.state_length()),
+            None => (2, 0),
+        };
+        self.expect("state length", got, due);
+        got == due
+    }
+
+    fn start(&mut self) {
+        let mut mine = self.region.clone();
+        let got = (self.subject.start)(self.kind, &self.settings, &mut mine);
+        let due = match &self.oracle {
+            None => 2,
+            Some(oracle) if oracle.state_length() != self.region.len() => 3,
+            Some(_) => 0,
+        };
+        let mut theirs = self.region.clone();
+        if let Some(oracle) = self.accepted(due) {
+            oracle.start(&mut theirs);
+            self.tally.see(Class::Start);
+        }
+        self.expect("start", got, due);
+        self.expect_words("start", &mine, &theirs);
+        self.region = theirs;
+    }
+
+    fn sound(&mut self) {
+        let (kind, s, w) = (self.kind, &self.settings, &self.region);
+        let got = (self.subject.refusal)(kind, s, w);
+        let due = model::refusal(kind, s, w, None);
+        self.expect("sound", got, due);
+    }
+
+    /// The number that is due at this tick.
+    fn refusal(&self) -> u64 {
+        model::refusal(self.kind, &self.settings, &self.region, Some(self.time))
+    }
+
+    fn see_call(&mut self, refused: u64) {
+        self.tally.see(match refused {
+            0 => Class::Accepted,
+            n => Class::Refused(n),
+        });
+    }
+
+    fn emit(&mut self) {
+        let refused = self.refusal();
+        let (s, v, w) = (&self.settings, &self.inputs, &self.region);
+        let got = (self.subject.emit)(self.kind, s, self.time, v, w);
+        let due = match self.accepted(refused) {
+            Some(oracle) => oracle.emit(f64::from_bits(self.time), v, w),
+            None => Answer::refused(refused),
+        };
+        self.see_call(refused);
+        if refused == 0 {
+            self.tally.see_outputs(self.kind, &due);
+        }
+        self.expect("emit", got, due);
+    }
+
+    fn update(&mut self) {
+        let refused = self.refusal();
+        let (mut mine, mut theirs) = (self.region.clone(), self.region.clone());
+        let (s, v) = (&self.settings, &self.inputs);
+        let got = (self.subject.update)(self.kind, s, self.time, v, &mut mine);
+        let due = match self.accepted(refused) {
+            Some(oracle) => oracle.update(f64::from_bits(self.time), v, &mut theirs),
+            None => Answer::refused(refused),
+        };
+        if refused == 0 {
+            let effects = effects(self.kind, s, v, &self.region, &theirs);
+            self.tally.see_all(&effects);
+        }
+        if due.warning {
+            self.tally.see(Class::Warning);
+        }
+        self.see_call(refused);
+        self.expect("update", got, due);
+        self.expect_words("update", &mine, &theirs);
+        self.region = theirs;
+    }
+}

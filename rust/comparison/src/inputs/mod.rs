@@ -1,0 +1,12 @@
+//! Settings, ticks and regions from a generator with a fixed seed, made to reach the corners.
+mod reals;
+mod regions;
+mod rng;
+mod settings;
+mod ticks;
+
+pub use reals::{any_bool, any_real, tame, wild};
+pub use regions::region;
+pub use rng::Rng;
+pub use settings::{accepted_settings, settings};
+pub use ticks::{tick_inputs, tick_time, time_after};

@@ -1,0 +1,104 @@
+//! State words of every sort.
+use super::reals::{wild, zero};
+use super::{Rng, any_bool, any_real, tame};
+use crate::model::leaves::UNSET;
+use crate::{Kind, model};
+
+/// A region for the settings: one in five freshly started, the rest of any words, one in 25 of a
+/// wrong length.
+pub fn region(r: &mut Rng, kind: Kind, s: &[u64]) -> Vec<u64> {
+    let (refused, length) = model::state_length(kind, s);
+    if refused != 0 {
+        return vec![0; r.below(8) as usize];
+    }
+    let mut w = vec![0; length];
+    if r.one_in(5) {
+        model::start(kind, s, &mut w);
+    } else {
+        for (n, item) in kind.words(s).bytes().enumerate() {
+            w[n] = any_word(r, item);
+        }
+        if kind == Kind::MovingAverage {
+            fill_ring(r, &mut w);
+        }
+    }
+    match r.below(50) {
+        0 => w.push(0),
+        1 => drop(w.pop()),
+        _ => {}
+    }
+    w
+}
+
+fn any_word(r: &mut Rng, item: u8) -> u64 {
+    match item {
+        b'r' => any_real(r),
+        b'b' => any_bool(r),
+        b't' => previous_time(r),
+        _ => 0,
+    }
+}
+
+/// Mostly tame; also the marker, a neighbour of it, zeros of either sign, and any real.
+fn previous_time(r: &mut Rng) -> u64 {
+    match r.below(24) {
+        0 => any_real(r),
+        1..=3 => UNSET,
+        4 => UNSET - 1,
+        5 | 6 => wild(r).to_bits(),
+        7 | 8 => zero(r),
+        _ => tame(r).to_bits(),
+    }
+}
+
+/// Fills head, count, coalesced and the ring of a moving average: in order or not, full or not,
+/// damaged or not.
+fn fill_ring(r: &mut Rng, w: &mut [u64]) {
+    let capacity = (w.len() - 6) / 2;
+    let count = ring_count(r, capacity);
+    let head = if r.one_in(2) {
+        r.below(capacity as u64) as usize
+    } else {
+        capacity - 1 - r.below(8) as usize
+    };
+    fill_points(r, w, head, count);
+    w[3] = head as u64;
+    w[4] = count as u64;
+    w[5] = any_bool(r);
+    if r.one_in(24) {
+        w[3] = r.pick(&[capacity as u64, capacity as u64 + 1, u64::MAX, 1 << 63]);
+    }
+    if r.one_in(24) {
+        w[4] = r.pick(&[capacity as u64 + 1, u64::MAX, 1 << 63]);
+    }
+}
+
+/// Mostly few points; also none, any number, and a ring that is full or nearly so.
+fn ring_count(r: &mut Rng, capacity: usize) -> usize {
+    match r.below(8) {
+        0 => capacity,
+        1 => capacity - 1 - r.below(3) as usize,
+        2 => 0,
+        3 => r.below(capacity as u64 + 1) as usize,
+        _ => r.below(12) as usize,
+    }
+}
+
+/// Writes the points from the last back to the first: mostly in order and up to the previous time.
+fn fill_points(r: &mut Rng, w: &mut [u64], head: usize, count: usize) {
+    let capacity = (w.len() - 6) / 2;
+    let mut t = match r.below(6) {
+        0 => wild(r),
+        1 => f64::from_bits(zero(r)),
+        _ if w[2] != UNSET => f64::from_bits(w[2]),
+        _ => tame(r),
+    };
+    let ordered = !r.one_in(4);
+    let step = r.pick(&[0.25, 1.0, 0.001, 0.0, 0.01]);
+    for n in (0..count).rev() {
+        let slot = (head + n) % capacity;
+        w[6 + slot] = if ordered { t.to_bits() } else { any_real(r) };
+        w[6 + capacity + slot] = any_real(r);
+        t -= step * r.below(4) as f64;
+    }
+}

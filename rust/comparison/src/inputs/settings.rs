@@ -1,0 +1,93 @@
+//! Settings in source order.
+use super::reals::{NANS, infinity, tame, wild, zero};
+use super::{Rng, any_real};
+use crate::{Kind, model};
+
+/// Settings of which one in 60 has a number that is not finite.
+pub fn settings(r: &mut Rng, kind: Kind) -> Vec<u64> {
+    let mut s = finite_settings(r, kind);
+    if r.one_in(60) {
+        let reals = kind.settings().match_indices('r');
+        let places: Vec<usize> = reals.map(|(n, _)| n).collect();
+        let place = r.pick(&places);
+        s[place] = if r.one_in(2) {
+            r.pick(&NANS)
+        } else {
+            infinity(r)
+        };
+    }
+    s
+}
+
+/// Settings that are not refused.
+pub fn accepted_settings(r: &mut Rng, kind: Kind) -> Vec<u64> {
+    loop {
+        let s = finite_settings(r, kind);
+        if model::state_length(kind, &s).0 == 0 {
+            return s;
+        }
+    }
+}
+
+fn finite_settings(r: &mut Rng, kind: Kind) -> Vec<u64> {
+    let calm = !r.one_in(4);
+    let item = |item| match item {
+        b'c' => r.below(4),
+        b'b' => r.below(2),
+        _ if calm => tame(r).to_bits(),
+        _ => wild(r).to_bits(),
+    };
+    let mut s: Vec<u64> = kind.settings().bytes().map(item).collect();
+    match kind {
+        Kind::Pid | Kind::PidWithReset if calm => calm_controller(r, &mut s),
+        Kind::LogicalVariablePulse => pulse(r, &mut s, calm),
+        Kind::MovingAverage => s[0] = delta(r).to_bits(),
+        _ => {}
+    }
+    s
+}
+
+/// Mostly gains above the floor and limits in order; at times zeros of either sign with limits
+/// around them, so that the sign of a zero sum shows.
+fn calm_controller(r: &mut Rng, s: &mut [u64]) {
+    for n in [1, 2, 3, 4, 7, 8] {
+        if !r.one_in(4) {
+            s[n] = (f64::from_bits(s[n]).abs() + 0.1).to_bits();
+        }
+    }
+    if !r.one_in(4) && f64::from_bits(s[5]) < f64::from_bits(s[6]) {
+        s.swap(5, 6);
+    }
+    if r.one_in(4) {
+        for n in [9, 10, 11] {
+            s[n] = zero(r);
+        }
+        (s[5], s[6]) = (1f64.to_bits(), (-1f64).to_bits());
+    }
+}
+
+/// Mostly within the limits of document 02, request 3.
+fn pulse(r: &mut Rng, s: &mut [u64], calm: bool) {
+    if r.one_in(16) {
+        s[1] = any_real(r);
+        return;
+    }
+    let steps = r.below(400) as f64;
+    s[0] = if calm { steps / 10.0 } else { wild(r) }.to_bits();
+    s[1] = r.pick(&[0.01f64, 0.02, 0.1, 0.25, 0.5, 0.157]).to_bits();
+    let hold = 1.0 + r.below(20) as f64 / 4.0;
+    s[2] = if calm { hold } else { wild(r).abs().max(1.0) }.to_bits();
+}
+
+/// Short windows make the ring small; now and then one that sizes it, or the largest ring.
+fn delta(r: &mut Rng) -> f64 {
+    if r.one_in(400) {
+        return r.pick(&[65535.0, 65535.5, 65536.0, 65537.0, 1e6, f64::MAX]);
+    }
+    match r.below(12) {
+        0 => wild(r).min(2000.0),
+        1 => 1024.0 + r.below(64) as f64 / 16.0,
+        2 => r.unit() * 1e-4,
+        _ => r.below(200) as f64 / 8.0,
+    }
+}

@@ -1,0 +1,71 @@
+//! The comparison: the Rust as published (`oracle`), a model of document 01 written apart from it
+//! (`model`), the inputs for both (`inputs`), and what is said of them call by call (`compare`),
+//! over histories (`histories`), on stored calls (`stored`), on text (`soak`, `sessions`) and of
+//! their speed (`bench`).
+#![forbid(unsafe_code)]
+
+pub mod bench;
+pub mod compare;
+mod effects;
+pub mod histories;
+pub mod inputs;
+pub mod leaves;
+pub mod model;
+pub mod oracle;
+pub mod sessions;
+pub mod soak;
+pub mod stored;
+pub mod tally;
+
+pub use oce_blocks::kind::Kind;
+
+/// What an emit or an update hands back. A refusal has zeros beside its number.
+#[derive(Clone, Copy, Debug, PartialEq, Eq, Default)]
+pub struct Answer {
+    pub refusal: u64,
+    pub real: u64,
+    pub boolean: bool,
+    pub warning: bool,
+}
+
+impl Answer {
+    #[must_use]
+    pub fn refused(refusal: u64) -> Answer {
+        Answer {
+            refusal,
+            ..Answer::default()
+        }
+    }
+}
+
+/// Of a block with settings: time, inputs, region.
+pub type Emit = fn(Kind, &[u64], u64, &[u64], &[u64]) -> Answer;
+pub type Update = fn(Kind, &[u64], u64, &[u64], &mut [u64]) -> Answer;
+
+/// The calls that are compared with the Rust: the model's, a slipped model's, or those of a port.
+/// Settings, inputs and region are words. There are always three inputs: a block that takes fewer
+/// must not look at the rest.
+#[derive(Clone, Copy)]
+pub struct Calls {
+    /// The refusal and the state length.
+    pub state_length: fn(Kind, &[u64]) -> (u64, usize),
+    /// The refusal; the region is written if it is 0.
+    pub start: fn(Kind, &[u64], &mut [u64]) -> u64,
+    pub emit: Emit,
+    pub update: Update,
+    /// The refusal of sound and of decoding: settings, region.
+    pub refusal: fn(Kind, &[u64], &[u64]) -> u64,
+}
+
+/// Equal as reals: all NaNs count as one, -0.0 and 0.0 differ.
+#[must_use]
+pub fn same_real(a: u64, b: u64) -> bool {
+    a == b || (f64::from_bits(a).is_nan() && f64::from_bits(b).is_nan())
+}
+
+/// Words as they are shown: 16 upper-case hex digits each, one space between.
+#[must_use]
+pub fn hex(words: &[u64]) -> String {
+    let shown: Vec<String> = words.iter().map(|w| format!("{w:016X}")).collect();
+    shown.join(" ")
+}

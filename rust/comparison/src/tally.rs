@@ -1,0 +1,112 @@
+//! What a comparison met and found. One that did not meet what it should has failed.
+use std::collections::BTreeMap;
+
+use crate::{Answer, Kind};
+
+/// A sort of call, answer or effect.
+#[derive(Clone, Copy, Debug, PartialEq, Eq, PartialOrd, Ord)]
+pub enum Class {
+    Accepted,
+    Refused(u64),
+    Start,
+    FirstTick,
+    True,
+    False,
+    Nan,
+    /// A tick that wipes the past, as demand 3 has it.
+    Wiping,
+    Warning,
+    Pruned,
+    Appended,
+    Overwritten,
+    FullRing,
+}
+
+use Class::*;
+
+/// How often each class occurred, and the differences found.
+#[derive(Default)]
+pub struct Tally {
+    seen: BTreeMap<Class, u64>,
+    pub differences: Vec<String>,
+}
+
+impl Tally {
+    pub fn see(&mut self, class: Class) {
+        *self.seen.entry(class).or_default() += 1;
+    }
+
+    pub fn see_all(&mut self, classes: &[Class]) {
+        classes.iter().for_each(|class| self.see(*class));
+    }
+
+    #[must_use]
+    pub fn count(&self, class: Class) -> u64 {
+        self.seen.get(&class).copied().unwrap_or(0)
+    }
+
+    /// Calls of emit and update, accepted or refused.
+    #[must_use]
+    pub fn calls(&self) -> u64 {
+        self.count(Accepted) + (1..=7).map(|n| self.count(Refused(n))).sum::<u64>()
+    }
+
+    /// The outputs of an emit.
+    pub fn see_outputs(&mut self, kind: Kind, answer: &Answer) {
+        if kind.outputs().contains('b') {
+            self.see(if answer.boolean { True } else { False });
+        }
+        if f64::from_bits(answer.real).is_nan() {
+            self.see(Nan);
+        }
+    }
+
+    /// Of these classes, those that did not occur.
+    #[must_use]
+    pub fn missing(&self, wanted: &[Class]) -> Vec<Class> {
+        let absent = |class: &&Class| self.count(**class) == 0;
+        wanted.iter().filter(absent).copied().collect()
+    }
+
+    /// The counts in one line, the calls first.
+    #[must_use]
+    pub fn line(&self) -> String {
+        let counts: Vec<String> = self
+            .seen
+            .iter()
+            .map(|(c, n)| format!("{c:?} {n}"))
+            .collect();
+        format!("calls {}: {}", self.calls(), counts.join(", "))
+    }
+
+    /// Prints the differences and the classes that are missing; says whether there are none.
+    pub fn report(&self, name: &str, wanted: &[Class]) -> bool {
+        for difference in &self.differences {
+            println!("{name} DIFFERS: {difference}");
+        }
+        let missing = self.missing(wanted);
+        if !missing.is_empty() {
+            println!("{name} NEVER MET: {missing:?}");
+        }
+        self.differences.is_empty() && missing.is_empty()
+    }
+}
+
+/// What a comparison of this block call by call must meet.
+#[must_use]
+pub fn expected_classes(kind: Kind) -> Vec<Class> {
+    let mut wanted = vec![Accepted, Start, FirstTick];
+    wanted.extend([2, 3, 5, 6, 7].map(Refused));
+    if kind.outputs().contains('b') {
+        wanted.extend([True, False]);
+    }
+    if kind.outputs().contains('r') {
+        wanted.push(Nan);
+    }
+    match kind {
+        Kind::MovingAverage => wanted.extend([Warning, Pruned, Appended, Overwritten, FullRing]),
+        Kind::Pid | Kind::TrueFalseHold | Kind::LogicalVariablePulse => {}
+        _ => wanted.push(Wiping),
+    }
+    wanted
+}

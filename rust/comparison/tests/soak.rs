@@ -1,0 +1,98 @@
+//! What `soak` must write: the examples, the stored sessions, and lines at the edge of the form.
+use std::fs;
+use std::path::{Path, PathBuf};
+
+use comparison::soak::soak;
+use comparison::{Kind, sessions};
+
+fn root(folder: &str) -> PathBuf {
+    Path::new(env!("CARGO_MANIFEST_DIR"))
+        .join("../..")
+        .join(folder)
+}
+
+#[test]
+fn examples() {
+    let entries = fs::read_dir(root("examples")).expect("there are examples");
+    let paths = entries.map(|entry| entry.expect("an example").path());
+    let inputs: Vec<PathBuf> = paths
+        .filter(|path| path.extension().is_some_and(|e| e == "soak"))
+        .collect();
+    assert!(inputs.len() >= 4, "{} examples", inputs.len());
+    for path in inputs {
+        let input = fs::read(&path).expect("an input");
+        let due = fs::read_to_string(path.with_extension("expected")).expect("an output");
+        assert_eq!(soak(&input), due, "{}", path.display());
+    }
+}
+
+#[test]
+fn stored_sessions() {
+    for kind in Kind::ALL {
+        let path = root("vectors/soak").join(format!("{}.txt", kind.name()));
+        let list = fs::read_to_string(path).expect("a stored list");
+        let sessions = sessions::parse(&list);
+        assert_eq!(sessions.len(), 60);
+        for (input, due) in sessions {
+            assert_eq!(soak(input.as_bytes()), due, "{input}");
+        }
+    }
+}
+
+/// What a first line gives, alone.
+fn first(line: &str) -> String {
+    soak(line.as_bytes())
+}
+
+#[test]
+fn first_lines() {
+    let none = "block MovingAverage\nticks 0 refused 0\n";
+    assert_eq!(first("MovingAverage 4090000000000000"), none);
+    assert_eq!(first("MovingAverage 4090000000000000\n"), none);
+    // no line, an empty one, a finite delta above 1024, no number, form
+    for bad in [
+        "",
+        "\n",
+        "MovingAverage 4090000000000001",
+        "MovingAverage 409000000000000a",
+        "MovingAverage 409000000000000",
+        "MovingAverage  4090000000000000",
+        "MovingAverage 4090000000000000 ",
+        "MovingAverage",
+        "Movingaverage 4090000000000000",
+        "TrueDelay 4000000000000000 2",
+    ] {
+        assert_eq!(first(bad), "bad\n", "{bad:?}");
+    }
+    assert_eq!(first("MovingAverage 7FF0000000000000"), "refused 2\n");
+    assert_eq!(first("TrueDelay FFF8000000000000 0"), "refused 2\n");
+}
+
+#[test]
+fn later_lines() {
+    let one = "0000000000000000 1\n";
+    let text = |line: &str| soak(format!("TrueDelay 0000000000000000 0\n{one}{line}").as_bytes());
+    let bad = "block TrueDelay\n1\nbad\nticks 1 refused 0\n";
+    for line in [
+        "\n",
+        "0000000000000000\n",
+        "0000000000000000 1\r\n",
+        " 0000000000000000 1",
+    ] {
+        assert_eq!(text(line), bad, "{line:?}");
+    }
+    let refused = "block TrueDelay\n1\nrefused 5\nticks 1 refused 1\n";
+    assert_eq!(text("7FF0000000000000 1\n"), refused);
+    let same = "block TrueDelay\n1\n0\nticks 2 refused 0\n";
+    assert_eq!(text("8000000000000000 0"), same);
+}
+
+#[test]
+fn the_longest_line() {
+    // a controller's first line is the longest good one: it is below the limit, and one more is not
+    let zeros = " 0000000000000000".repeat(11);
+    let line = format!("PidWithReset PID{zeros} 0");
+    assert_eq!(line.len(), 205);
+    assert!(first(&line).starts_with("block PidWithReset\n"));
+    assert_eq!(first(&format!("{line}{}", "0".repeat(51))), "bad\n");
+}

@@ -1,0 +1,139 @@
+-- The calls of any block, case by case. Assumes nothing.
+use mathlib.Core.Path.{_≡_, refl, sym, ap, _∙_}
+use mathlib.Core.Bool.{Bool, true, false, not}
+use mathlib.Core.List.{List, [], _∷_}
+use Prim.Native.Nat.{ℕ, zero, suc}
+use borrow.Author.Tests.{eq-eqb}
+use lib.Dec.{eqb}
+use lib.ListN.{length}
+use lib.Ieee.{Float}
+use lib.Ieee.Scale.{finite}
+use Rattle.reals.specs.Words.{0·0}
+use Rattle.dynamics.specs.Previous.{runsBack}
+use Rattle.dynamics.specs.Answer.{Outputs, silent, emitted, updated, ticked, refusalOf, accept}
+use Rattle.dynamics.specs.Region.{stored, Gives}
+use Rattle.dynamics.specs.Machine.{Machine, sized, startRefusal, decodeRefusal, tickRefusal, startedWords, isSound, emitAnswer, updateAnswer, updatedWords, tickAnswer, Tick, emits, updates, answerTo, wordsAfter, run}
+use Rattle.dynamics.specs.declared.call.Answer.{Answer}
+use Rattle.dynamics.specs.declared.call.Inputs.{Inputs}
+use Rattle.dynamics.proofs.Accepted.{accepted, accept-ap, accept-const, all-passed}
+use Rattle.dynamics.proofs.Accepted as by
+
+-- a contract of a call that writes admits one result only
+pub one-result : {A : Type 0} {a r s : A} {ws u v : List ℕ} → Gives a ws r u → Gives a ws s v → (r ≡ s) × (u ≡ v)
+one-result g h = (g .answers ∙ sym (h .answers), g .leaves ∙ sym (h .leaves))
+
+-- words of the state's length take a region's place
+stored-all : (M : Machine) (w v : List ℕ) → length v ≡ M .size → sized M w ≡ true → stored w v ≡ v
+stored-all M w v e l = rw e (simp l)
+
+-- ---- a start
+module _ (M : Machine) (w : List ℕ) where
+  pub start-refused : {n : ℕ} → n ≡ startRefusal M w → (n ≡ 0 → ⊥) → Gives (startRefusal M w) (startedWords M w) n w
+  unfolding startedWords
+  start-refused e h = record { answers = e; leaves = sym (by.refused _ _ (startRefusal M w) (λ z. h (e ∙ z))) }
+
+  start-passed : startRefusal M w ≡ 0 → (M .accepts ≡ true) × (sized M w ≡ true)
+  unfolding startRefusal
+  start-passed z = let (_, s, l, _, _, _, _) = all-passed true (M .accepts) (sized M w) true true true true z in (s, l)
+
+  pub start-accepted : (v : List ℕ) {w' : List ℕ} → length v ≡ M .size → v ≡ M .fresh → 0 ≡ startRefusal M w → w' ≡ stored w v
+      → Gives (startRefusal M w) (startedWords M w) 0 w'
+  unfolding startedWords
+  start-accepted v l f z s =
+      record { answers = z; leaves = s ∙ stored-all M w v l (start-passed (sym z) .1) ∙ f ∙ sym (accepted _ _ (startRefusal M w) (sym z)) }
+
+  -- a fresh start is sound, if the block's fresh words are
+  pub start-sound : length (M .fresh) ≡ M .size → M .sound (M .fresh) ≡ true → startRefusal M w ≡ 0 → isSound M (startedWords M w) ≡ true
+  unfolding startedWords isSound refusalOf
+  start-sound l s z = rw (accepted (M .fresh) w (startRefusal M w) z) (simp (start-passed z .0, l, eq-eqb (M .size) (M .size) refl, s))
+
+-- where sound asks no more than decoding does, a region is sound exactly if it decodes
+pub sound-decodes : (M : Machine) (w : List ℕ) → M .sound w ≡ M .decodes w → isSound M w ≡ eqb (decodeRefusal M w) 0
+unfolding isSound decodeRefusal
+sound-decodes M w e = rw e
+
+-- ---- a tick
+module _ (M : Machine) (time : Float) (i : Inputs) (w : List ℕ) where
+  abbrev number : ℕ
+  number = tickRefusal M time w
+
+  passed : number ≡ 0 → (M .accepts ≡ true) × (sized M w ≡ true) × (finite time ≡ true) × (M .decodes w ≡ true) × (not (runsBack time (M .previous w)) ≡ true)
+  unfolding tickRefusal
+  passed z = let (_, s, l, _, t, d, o) = all-passed true (M .accepts) (sized M w) true (finite time) (M .decodes w) (not (runsBack time (M .previous w))) z in (s, l, t, d, o)
+
+  -- what an accepted tick tells
+  pub tick-settings : number ≡ 0 → M .accepts ≡ true
+  tick-settings z = passed z .0
+
+  pub tick-time : number ≡ 0 → finite time ≡ true
+  tick-time z = passed z .2
+
+  -- what a refused call gives
+  pub emit-refused : {n : ℕ} → n ≡ number → (n ≡ 0 → ⊥) → silent n ≡ emitAnswer M time i w
+  unfolding emitAnswer
+  emit-refused e h = ap silent e ∙ sym (by.refused _ _ number (λ z. h (e ∙ z)))
+
+  pub update-refused : {n : ℕ} → n ≡ number → (n ≡ 0 → ⊥) → Gives (updateAnswer M time i w) (updatedWords M time i w) (silent n) w
+  unfolding updateAnswer updatedWords
+  update-refused e h = record { answers = ap silent e ∙ sym (by.refused _ _ number (λ z. h (e ∙ z))); leaves = sym (by.refused _ _ number (λ z. h (e ∙ z))) }
+
+  pub tick-refused : {n : ℕ} → n ≡ number → (n ≡ 0 → ⊥) → Gives (tickAnswer M time i w) (updatedWords M time i w) (silent n) w
+  unfolding tickAnswer updatedWords
+  tick-refused e h = record { answers = ap silent e ∙ sym (by.refused _ _ number (λ z. h (e ∙ z))); leaves = sym (by.refused _ _ number (λ z. h (e ∙ z))) }
+
+  -- what an accepted call gives
+  pub emit-accepted : {x : Answer} → 0 ≡ number → x ≡ emitted (M .output w time i) → x ≡ emitAnswer M time i w
+  unfolding emitAnswer
+  emit-accepted z x = x ∙ sym (accepted _ _ number (sym z))
+
+  left : (v : List ℕ) {w' : List ℕ} → length v ≡ M .size → 0 ≡ number → v ≡ M .after w time i → w' ≡ stored w v → w' ≡ updatedWords M time i w
+  unfolding updatedWords
+  left v l z a s = s ∙ stored-all M w v l (passed (sym z) .1) ∙ a ∙ sym (accepted _ _ number (sym z))
+
+  pub update-accepted : (v : List ℕ) {x : Answer} {w' : List ℕ} → length v ≡ M .size → 0 ≡ number → x ≡ updated (M .warns w time i) → v ≡ M .after w time i
+      → w' ≡ stored w v → Gives (updateAnswer M time i w) (updatedWords M time i w) x w'
+  unfolding updateAnswer
+  update-accepted v l z x a s = record { answers = x ∙ sym (accepted _ _ number (sym z)); leaves = left v l z a s }
+
+  pub tick-accepted : (v : List ℕ) {x : Answer} {w' : List ℕ} → length v ≡ M .size → 0 ≡ number → x ≡ ticked (M .output w time i) (M .warns w time i)
+      → v ≡ M .after w time i → w' ≡ stored w v → Gives (tickAnswer M time i w) (updatedWords M time i w) x w'
+  unfolding tickAnswer
+  tick-accepted v l z x a s = record { answers = x ∙ sym (accepted _ _ number (sym z)); leaves = left v l z a s }
+
+  -- ---- only updates warn, and an update hands out 0.0 and false
+  pub emit-quiet : emitAnswer M time i w .warning ≡ false
+  unfolding emitAnswer
+  emit-quiet = accept-ap (λ (a : Answer). a .warning) number _ _ ∙ accept-const number false
+
+  pub update-real : updateAnswer M time i w .real ≡ 0·0
+  unfolding updateAnswer
+  update-real = accept-ap (λ (a : Answer). a .real) number _ _ ∙ accept-const number 0·0
+
+  pub update-boolean : updateAnswer M time i w .boolean ≡ false
+  unfolding updateAnswer
+  update-boolean = accept-ap (λ (a : Answer). a .boolean) number _ _ ∙ accept-const number false
+
+-- ---- a whole tick is an emit and then an update with the same time and inputs
+module _ (M : Machine) (w : List ℕ) (k : Tick) where
+  pub tick-run : run M w (emits k ∷ updates k ∷ [])
+      ≡ record { answer = emitAnswer M (k .time) (k .inputs) w; left = w }
+      ∷ record { answer = updateAnswer M (k .time) (k .inputs) w; left = updatedWords M (k .time) (k .inputs) w }
+      ∷ []
+  unfolding run answerTo wordsAfter
+  tick-run = refl
+
+-- it has the number of both, the outputs of the one and the warning of the other, and it leaves `updatedWords`
+pub record Together (emit update whole : Answer) : Type 0 where
+  pub as-emit : whole .refusal ≡ emit .refusal
+  pub as-update : whole .refusal ≡ update .refusal
+  pub real : whole .real ≡ emit .real
+  pub boolean : whole .boolean ≡ emit .boolean
+  pub warning : whole .warning ≡ update .warning
+
+pub tick-together : (M : Machine) (time : Float) (i : Inputs) (w : List ℕ) → Together (emitAnswer M time i w) (updateAnswer M time i w) (tickAnswer M time i w)
+unfolding emitAnswer updateAnswer tickAnswer
+tick-together M time i w = go (tickRefusal M time w) (M .output w time i) (M .warns w time i)
+  where
+    go : (n : ℕ) (o : Outputs) (b : Bool) → Together (accept n (emitted o) (silent n)) (accept n (updated b) (silent n)) (accept n (ticked o b) (silent n))
+    go zero o b = unfold accept in record { as-emit = refl; as-update = refl; real = refl; boolean = refl; warning = refl }
+    go (suc n) o b = unfold accept in record { as-emit = refl; as-update = refl; real = refl; boolean = refl; warning = refl }

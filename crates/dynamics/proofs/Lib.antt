@@ -1,0 +1,6 @@
+-- Laws of times, refusals, calls and histories, for the proofs here and for every crate above.
+pub mod Times
+pub mod Copies
+pub mod Accepted
+pub mod Calls
+pub mod Histories

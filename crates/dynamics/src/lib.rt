@@ -1,0 +1,29 @@
+// What every block shares: the previous time, the small steps, what a call brings and answers, a region's words.
+pub mod call;
+pub mod leaf;
+pub mod previous;
+pub mod region;
+
+pub use call::Answer;
+pub use call::Inputs;
+pub use call::Length;
+pub use call::boolean_answer;
+pub use call::both_answer;
+pub use call::real_answer;
+pub use call::silent;
+pub use call::warning_answer;
+pub use leaf::first_order_filter_implicit;
+pub use leaf::forward_euler_accumulate;
+pub use leaf::is_rising;
+pub use leaf::positive_duration;
+pub use leaf::raised_to;
+pub use previous::PREV_T_UNSET;
+pub use previous::Previous;
+pub use previous::is_first_tick;
+pub use previous::previous_of;
+pub use previous::previous_sound;
+pub use previous::runs_back;
+pub use previous::tick_dt;
+pub use previous::word_of_previous;
+pub use region::store;
+pub use region::word_at;

@@ -1,0 +1,2 @@
+// The library for C and Rust: every real goes in and comes out as its word, so that a NaN has one pattern.
+pub mod leaves;

@@ -4,3 +4,4 @@ pub mod Copies
 pub mod Accepted
 pub mod Calls
 pub mod Histories
+pub mod Steps

@@ -1,9 +1,12 @@
 -- What a call on one block answers, and the table of refusals. Definitions only.
 use Prim.Native.Nat.{ℕ, zero, suc}
-use mathlib.Core.Bool.{Bool, true, false}
+use mathlib.Core.Bool.{Bool, true, false, not}
 use lib.Ieee.{Float}
+use lib.Ieee.Scale.{finite}
 use Rattle.reals.specs.Words.{0·0}
+use Rattle.dynamics.specs.Previous.{runsBack}
 use Rattle.dynamics.specs.declared.call.Answer.{Answer}
+use Rattle.dynamics.specs.declared.previous.Previous.{Previous}
 
 -- ---- outputs: an output that a block lacks is 0.0 or false
 pub record Outputs : Type 0 where
@@ -57,6 +60,13 @@ refusalOf true true true true true true true = 0
 -- a test that a call does not make
 abbrev pub skipped : Bool
 skipped = true
+
+-- tests 2 and 3 alone, and tests 5 to 7 of a tick at this time
+unfoldable pub formRefusal : (settings length : Bool) → ℕ
+formRefusal settings length = refusalOf skipped settings length skipped skipped skipped skipped
+
+unfoldable pub timeRefusal : Float → Bool → Previous → ℕ
+timeRefusal time decodes previous = refusalOf skipped skipped skipped skipped (finite time) decodes (not (runsBack time previous))
 
 -- what a call with this refusal number gives: the first if it is accepted, the second if not
 unfoldable pub accept : {X : Type 0} → ℕ → X → X → X

@@ -4,3 +4,4 @@ pub mod Answer
 pub mod Region
 pub mod Machine
 pub mod History
+pub mod Stepped

@@ -2,6 +2,7 @@
 pub mod call;
 pub mod leaf;
 pub mod previous;
+pub mod refusal;
 pub mod region;
 
 pub use call::Answer;
@@ -25,5 +26,10 @@ pub use previous::previous_sound;
 pub use previous::runs_back;
 pub use previous::tick_dt;
 pub use previous::word_of_previous;
+pub use refusal::form_refusal;
+pub use refusal::time_refusal;
+pub use region::flag_at;
+pub use region::previous_at;
+pub use region::real_at;
 pub use region::store;
 pub use region::word_at;

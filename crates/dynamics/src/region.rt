@@ -1,6 +1,12 @@
 // A region is a lent list of words: one is read, or all are stored at once.
+use crate::previous::Previous;
+use crate::previous::previous_of;
+use reals::flag_of;
+use reals::real_of;
 ghost use mathlib.Core.Path.{_≡_};
 ghost use lib.ListN.{getD};
+ghost use Rattle.reals.specs.Words.{realOf, flagOf};
+ghost use Rattle.dynamics.specs.Previous.{previousOf};
 ghost use Rattle.dynamics.specs.Region.{stored};
 
 // The word at a place of the region, and 0 past its end.
@@ -12,6 +18,25 @@ pub fn word_at(region: &[u64], place: usize) -> u64
     } else {
         0
     }
+}
+
+// The word there as a real, as a boolean and as a previous time.
+pub fn real_at(region: &[u64], place: usize) -> f64
+    ensures { λ r. ⌜ r ≡ realOf (getD (now (region .entry)) place 0) ⌝ }
+{
+    real_of(word_at(region, place))
+}
+
+pub fn flag_at(region: &[u64], place: usize) -> bool
+    ensures { λ r. ⌜ r ≡ flagOf (getD (now (region .entry)) place 0) ⌝ }
+{
+    flag_of(word_at(region, place))
+}
+
+pub fn previous_at(region: &[u64], place: usize) -> Previous
+    ensures { λ r. ⌜ r ≡ previousOf (getD (now (region .entry)) place 0) ⌝ }
+{
+    previous_of(word_at(region, place))
 }
 
 // Writes the words over the whole region. A region of another length stays as it is.

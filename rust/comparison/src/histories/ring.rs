@@ -53,7 +53,7 @@ impl Pace {
         match self {
             Pace::Steady => 1.0,
             Pace::Halves => resolution * r.below(5) as f64 * 0.5,
-            Pace::Pairs => resolution * if n.is_multiple_of(2) { 0.125 } else { 1.875 },
+            Pace::Pairs => resolution * if n % 2 == 0 { 0.125 } else { 1.875 },
             Pace::Parts => delta.min(1e5) * r.unit() * r.unit() * 0.01,
             Pace::Leaps => {
                 let steps = [0.0, 0.5, 1.0, resolution, 2.0 * resolution, delta.min(1e9)];

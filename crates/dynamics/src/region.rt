@@ -20,19 +20,21 @@ pub fn word_at(region: &[u64], place: usize) -> u64
     }
 }
 
-// The word there as a real, as a boolean and as a previous time.
+// The real that the word there means.
 pub fn real_at(region: &[u64], place: usize) -> f64
     ensures { λ r. ⌜ r ≡ realOf (getD (now (region .entry)) place 0) ⌝ }
 {
     real_of(word_at(region, place))
 }
 
+// The boolean that the word there means.
 pub fn flag_at(region: &[u64], place: usize) -> bool
     ensures { λ r. ⌜ r ≡ flagOf (getD (now (region .entry)) place 0) ⌝ }
 {
     flag_of(word_at(region, place))
 }
 
+// The previous time that the word there means.
 pub fn previous_at(region: &[u64], place: usize) -> Previous
     ensures { λ r. ⌜ r ≡ previousOf (getD (now (region .entry)) place 0) ⌝ }
 {

@@ -1,5 +1,5 @@
 -- Refusal numbers by the first test that fails, and what a call gives by its number. Assumes nothing.
-use mathlib.Core.Path.{_≡_, refl}
+use mathlib.Core.Path.{_≡_, refl, sym}
 use mathlib.Core.Bool.{Bool, true, false}
 use Prim.Native.Nat.{ℕ, zero, suc}
 use native.Mathlib.Omega.{arith}
@@ -46,14 +46,14 @@ module _ (settings length time state order : Bool) where
 
 -- ---- what a call gives
 module _ {X : Type 0} (x y : X) where
-  pub accepted : (n : ℕ) → n ≡ 0 → accept n x y ≡ x
+  pub accepted : (n : ℕ) → 0 ≡ n → x ≡ accept n x y
   unfolding accept
-  accepted n e = rw e
+  accepted n e = rw (sym e)
 
-  pub refused : (n : ℕ) → (n ≡ 0 → ⊥) → accept n x y ≡ y
+  pub refused : (n : ℕ) {m : ℕ} → m ≡ n → (m ≡ 0 → ⊥) → y ≡ accept n x y
   unfolding accept
-  refused zero h = absurd (h refl)
-  refused (suc n) h = refl
+  refused zero e h = absurd (h e)
+  refused (suc n) e h = refl
 
 -- two accounts that agree on what is accepted
 pub accept-same : {X : Type 0} (n : ℕ) (x x' y : X) → (n ≡ 0 → x ≡ x') → accept n x y ≡ accept n x' y

@@ -10,7 +10,7 @@ use lib.Ieee.{Float}
 use lib.Ieee.Scale.{finite}
 use Rattle.reals.specs.Words.{0·0}
 use Rattle.dynamics.specs.Previous.{runsBack}
-use Rattle.dynamics.specs.Answer.{Outputs, silent, emitted, updated, ticked, refusalOf, skipped, accept}
+use Rattle.dynamics.specs.Answer.{Outputs, silent, emitted, updated, ticked, refusalOf, skipped, formRefusal, accept}
 use Rattle.dynamics.specs.Region.{stored, Gives}
 use Rattle.dynamics.specs.Machine.{Machine, sized, startRefusal, decodeRefusal, tickRefusal, startedWords, isSound, emitAnswer, updateAnswer, updatedWords, tickAnswer, Tick, emits, updates, answerTo, wordsAfter, run}
 use Rattle.dynamics.specs.declared.call.Answer.{Answer}
@@ -30,15 +30,15 @@ stored-all M w v e l = rw e (simp l)
 module _ (M : Machine) (w : List ℕ) where
   pub start-refused : {n : ℕ} → n ≡ startRefusal M w → (n ≡ 0 → ⊥) → Gives (startRefusal M w) (startedWords M w) n w
   unfolding startedWords
-  start-refused e h = record { answers = e; leaves = sym (by.refused _ _ (startRefusal M w) (λ z. h (e ∙ z))) }
+  start-refused e h = record { answers = e; leaves = by.refused _ _ (startRefusal M w) e h }
 
   start-passed : startRefusal M w ≡ 0 → (M .accepts ≡ true) × (sized M w ≡ true)
-  unfolding startRefusal
+  unfolding startRefusal formRefusal
   start-passed z = let (_, s, l, _, _, _, _) = all-passed true (M .accepts) (sized M w) true true true true z in (s, l)
 
   -- a start makes tests 2 and 3 only. One that fails there is the first that fails in every call; where both pass, the others decide
   pub start-fails : (time state order : Bool) {n : ℕ} → n ≡ startRefusal M w → (n ≡ 0 → ⊥) → n ≡ refusalOf skipped (M .accepts) (sized M w) skipped time state order
-  unfolding startRefusal
+  unfolding startRefusal formRefusal
   start-fails time state order e h = go (M .accepts) (sized M w) e h
     where
       go : (s l : Bool) {n : ℕ} → n ≡ refusalOf skipped s l skipped skipped skipped skipped → (n ≡ 0 → ⊥) → n ≡ refusalOf skipped s l skipped time state order
@@ -54,12 +54,12 @@ module _ (M : Machine) (w : List ℕ) where
       → Gives (startRefusal M w) (startedWords M w) 0 w'
   unfolding startedWords
   start-accepted v l f z s =
-      record { answers = z; leaves = s ∙ stored-all M w v l (start-passed (sym z) .1) ∙ f ∙ sym (accepted _ _ (startRefusal M w) (sym z)) }
+      record { answers = z; leaves = s ∙ stored-all M w v l (start-passed (sym z) .1) ∙ f ∙ accepted _ _ (startRefusal M w) z }
 
   -- a fresh start is sound, if the block's fresh words are
   pub start-sound : length (M .fresh) ≡ M .size → M .sound (M .fresh) ≡ true → startRefusal M w ≡ 0 → isSound M (startedWords M w) ≡ true
   unfolding startedWords isSound refusalOf
-  start-sound l s z = rw (accepted (M .fresh) w (startRefusal M w) z) (simp (start-passed z .0, l, eq-eqb (M .size) (M .size) refl, s))
+  start-sound l s z = rw (← accepted (M .fresh) w (startRefusal M w) (sym z)) (simp (start-passed z .0, l, eq-eqb (M .size) (M .size) refl, s))
 
 -- where sound asks no more than decoding does, a region is sound exactly if it decodes
 pub sound-decodes : (M : Machine) (w : List ℕ) → M .sound w ≡ M .decodes w → isSound M w ≡ eqb (decodeRefusal M w) 0
@@ -85,34 +85,34 @@ module _ (M : Machine) (time : Float) (i : Inputs) (w : List ℕ) where
   -- what a refused call gives
   pub emit-refused : {n : ℕ} → n ≡ number → (n ≡ 0 → ⊥) → silent n ≡ emitAnswer M time i w
   unfolding emitAnswer
-  emit-refused e h = ap silent e ∙ sym (by.refused _ _ number (λ z. h (e ∙ z)))
+  emit-refused e h = ap silent e ∙ by.refused _ _ number e h
 
   pub update-refused : {n : ℕ} → n ≡ number → (n ≡ 0 → ⊥) → Gives (updateAnswer M time i w) (updatedWords M time i w) (silent n) w
   unfolding updateAnswer updatedWords
-  update-refused e h = record { answers = ap silent e ∙ sym (by.refused _ _ number (λ z. h (e ∙ z))); leaves = sym (by.refused _ _ number (λ z. h (e ∙ z))) }
+  update-refused e h = record { answers = ap silent e ∙ by.refused _ _ number e h; leaves = by.refused _ _ number e h }
 
   pub tick-refused : {n : ℕ} → n ≡ number → (n ≡ 0 → ⊥) → Gives (tickAnswer M time i w) (updatedWords M time i w) (silent n) w
   unfolding tickAnswer updatedWords
-  tick-refused e h = record { answers = ap silent e ∙ sym (by.refused _ _ number (λ z. h (e ∙ z))); leaves = sym (by.refused _ _ number (λ z. h (e ∙ z))) }
+  tick-refused e h = record { answers = ap silent e ∙ by.refused _ _ number e h; leaves = by.refused _ _ number e h }
 
   -- what an accepted call gives
   pub emit-accepted : {x : Answer} → 0 ≡ number → x ≡ emitted (M .output w time i) → x ≡ emitAnswer M time i w
   unfolding emitAnswer
-  emit-accepted z x = x ∙ sym (accepted _ _ number (sym z))
+  emit-accepted z x = x ∙ accepted _ _ number z
 
   left : (v : List ℕ) {w' : List ℕ} → length v ≡ M .size → 0 ≡ number → v ≡ M .after w time i → w' ≡ stored w v → w' ≡ updatedWords M time i w
   unfolding updatedWords
-  left v l z a s = s ∙ stored-all M w v l (passed (sym z) .1) ∙ a ∙ sym (accepted _ _ number (sym z))
+  left v l z a s = s ∙ stored-all M w v l (passed (sym z) .1) ∙ a ∙ accepted _ _ number z
 
   pub update-accepted : (v : List ℕ) {x : Answer} {w' : List ℕ} → length v ≡ M .size → 0 ≡ number → x ≡ updated (M .warns w time i) → v ≡ M .after w time i
       → w' ≡ stored w v → Gives (updateAnswer M time i w) (updatedWords M time i w) x w'
   unfolding updateAnswer
-  update-accepted v l z x a s = record { answers = x ∙ sym (accepted _ _ number (sym z)); leaves = left v l z a s }
+  update-accepted v l z x a s = record { answers = x ∙ accepted _ _ number z; leaves = left v l z a s }
 
   pub tick-accepted : (v : List ℕ) {x : Answer} {w' : List ℕ} → length v ≡ M .size → 0 ≡ number → x ≡ ticked (M .output w time i) (M .warns w time i)
       → v ≡ M .after w time i → w' ≡ stored w v → Gives (tickAnswer M time i w) (updatedWords M time i w) x w'
   unfolding tickAnswer
-  tick-accepted v l z x a s = record { answers = x ∙ sym (accepted _ _ number (sym z)); leaves = left v l z a s }
+  tick-accepted v l z x a s = record { answers = x ∙ accepted _ _ number z; leaves = left v l z a s }
 
   -- ---- only updates warn, and an update hands out 0.0 and false
   pub emit-quiet : emitAnswer M time i w .warning ≡ false

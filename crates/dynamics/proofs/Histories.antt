@@ -3,13 +3,12 @@ use mathlib.Core.Path.{_≡_, refl, sym, ap, _∙_}
 use mathlib.Core.Bool.{Bool, true, false, not, cond}
 use mathlib.Core.List.{List, [], _∷_}
 use Prim.Native.Nat.{ℕ, zero, suc}
-use lib.Dec.{eqb}
 use lib.ListN.{length}
 use lib.Ieee.{Float}
 use lib.Ieee.Scale.{finite}
 use borrow.Author.Tests.{not-true, eq-eqb}
 use Rattle.dynamics.specs.Previous.{runsBack, previousOf, wordOfPrevious, soundPrevious}
-use Rattle.dynamics.specs.Answer.{silent, emitted, updated, refusalOf, accept}
+use Rattle.dynamics.specs.Answer.{silent, emitted, updated, refusalOf, formRefusal, accept}
 use Rattle.dynamics.specs.Machine.{Machine, startRefusal, startedWords, tickRefusal, emitAnswer, updateAnswer, updatedWords, Tick, Call, starts, emits, updates, answerTo, wordsAfter, run}
 use Rattle.dynamics.specs.History.{History, started, wiped, followed, newest, previousIn, Account, refusedAfter, grown, retold, Wiping}
 use Rattle.dynamics.specs.declared.call.Inputs.{Inputs}
@@ -60,14 +59,11 @@ pub record Kept (M : Machine) (A : Account) (Good : History → Type 0) : Type 0
   pub after : (k : Tick) (h : History) → Good h → refusedAfter k h ≡ 0 → M .after (A .words h) (k .time) (k .inputs) ≡ A .words (grown (A .wipes) h k)
   pub good : (k : Tick) (h : History) → Good h → refusedAfter k h ≡ 0 → Good (grown (A .wipes) h k)
 
-self : (n : ℕ) → eqb n n ≡ true
-self n = eq-eqb n n refl
-
 module _ (M : Machine) (A : Account) (Good : History → Type 0) (K : Kept M A Good) where
   module _ (settings : M .accepts ≡ true) where
     same-start : (h : History) → startRefusal M (A .words h) ≡ 0
-    unfolding startRefusal refusalOf
-    same-start h = simp (settings, K .counted h, self (M .size))
+    unfolding startRefusal formRefusal refusalOf
+    same-start h = simp (settings, K .counted h, eq-eqb (M .size) (M .size) refl)
 
     started-words : (h : History) → startedWords M (A .words h) ≡ A .words started
     unfolding startedWords accept
@@ -76,7 +72,7 @@ module _ (M : Machine) (A : Account) (Good : History → Type 0) (K : Kept M A G
     module _ (k : Tick) (h : History) (g : Good h) where
       same-refusal : tickRefusal M (k .time) (A .words h) ≡ refusedAfter k h
       unfolding tickRefusal refusedAfter
-      same-refusal = simp (settings, K .counted h, self (M .size), K .decodes h g, K .previous h g)
+      same-refusal = simp (settings, K .counted h, eq-eqb (M .size) (M .size) refl, K .decodes h g, K .previous h g)
 
       same-emit : emitAnswer M (k .time) (k .inputs) (A .words h) ≡ accept (refusedAfter k h) (emitted (A .output k h)) (silent (refusedAfter k h))
       unfolding emitAnswer
@@ -120,7 +116,7 @@ module _ (M : Machine) (A : Account) (Good : History → Type 0) (K : Kept M A G
   -- a wiping tick leaves its own words, whatever the region held before it
   pub wiped-clean : (w : List ℕ) (k : Tick) → Wiping A M w k → wordsAfter M w (updates k) ≡ A .words (wiped k)
   unfolding wordsAfter updatedWords
-  wiped-clean w k p = accepted (M .after w (k .time) (k .inputs)) w (tickRefusal M (k .time) w) (p .accepted) ∙ K .wiped-words k w p
+  wiped-clean w k p = sym (accepted (M .after w (k .time) (k .inputs)) w (tickRefusal M (k .time) w) (sym (p .accepted))) ∙ K .wiped-words k w p
 
   -- and from then on it is what the history since tells
   pub from-wiping : (w : List ℕ) (k : Tick) → Wiping A M w k → (cs : List Call) → run M (wordsAfter M w (updates k)) cs ≡ retold A (wiped k) cs

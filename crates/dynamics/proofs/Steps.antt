@@ -48,11 +48,11 @@ module _ {S D : Type 0} (E : Enum S D) where
   -- made
   open-refused : (n : ℕ) (x : S) {m : ℕ} → m ≡ n → (m ≡ 0 → ⊥) → E .refused m ≡ Opened n x
   unfolding openedAs
-  open-refused n x e h = ap (E .refused) e ∙ sym (by.refused _ _ n (λ z. h (e ∙ z)))
+  open-refused n x e h = ap (E .refused) e ∙ by.refused _ _ n e h
 
-  open-state : (n : ℕ) (x : S) {s : S} → n ≡ 0 → s ≡ x → E .state s ≡ Opened n x
+  open-state : (n : ℕ) (x : S) {s : S} → 0 ≡ n → s ≡ x → E .state s ≡ Opened n x
   unfolding openedAs
-  open-state n x z e = ap (E .state) e ∙ sym (accepted _ _ n z)
+  open-state n x z e = ap (E .state) e ∙ accepted _ _ n z
 
   -- taken apart
   was-refused : (n : ℕ) (x : S) (m : ℕ) → Opened n x ≡ E .refused m → n ≡ 0 → ⊥
@@ -121,7 +121,7 @@ module _ {S D : Type 0} (E : Enum S D) (B : Stepped S) (counted : (s : S) → le
   -- ---- opening, in the order of the table: tests 2 and 3, then the state is read, then the others
   module _ (w : List ℕ) {a : Bool} (settings : a ≡ B .accepts) {n : ℕ} (formed : n ≡ formRefusal a (eqb (length w) (B .size))) where
     form : n ≡ startRefusal M w
-    unfolding startRefusal formRefusal machineOf
+    unfolding startRefusal machineOf
     form = formed ∙ ap (λ (q : Bool). formRefusal q (eqb (length w) (B .size))) settings
 
     module _ (bad : n ≡ 0 → ⊥) where
@@ -151,7 +151,7 @@ module _ {S D : Type 0} (E : Enum S D) (B : Stepped S) (counted : (s : S) → le
 
         pub decode-then : {b : Bool} → b ≡ soundPrevious (B .previous s) → b ≡ true → E .state s ≡ Opened E (decodeRefusal M w) (B .stateOf w)
         unfolding decodeRefusal machineOf
-        decode-then d t = open-state E (decodeRefusal M w) (B .stateOf w) (sym (start-passes M w _ _ _ fine) ∙ sym (refused-none _ _ _ _ _ refl refl refl (sym (told d) ∙ t) refl)) e
+        decode-then d t = open-state E (decodeRefusal M w) (B .stateOf w) (refused-none _ _ _ _ _ refl refl refl (sym (told d) ∙ t) refl ∙ start-passes M w _ _ _ fine) e
 
         pub decode-else : {b : Bool} → b ≡ soundPrevious (B .previous s) → b ≡ false → E .refused 6 ≡ Opened E (decodeRefusal M w) (B .stateOf w)
         unfolding decodeRefusal machineOf
@@ -163,7 +163,7 @@ module _ {S D : Type 0} (E : Enum S D) (B : Stepped S) (counted : (s : S) → le
           last = t ∙ rw (told d, e) (start-passes M w _ _ _ fine)
 
           pub admit-then : k ≡ 0 → E .state s ≡ Opened E (tickRefusal M time w) (B .stateOf w)
-          admit-then z = open-state E (tickRefusal M time w) (B .stateOf w) (sym last ∙ z) e
+          admit-then z = open-state E (tickRefusal M time w) (B .stateOf w) (sym z ∙ last) e
 
           pub admit-else : (k ≡ 0 → ⊥) → E .refused k ≡ Opened E (tickRefusal M time w) (B .stateOf w)
           admit-else bad = open-refused E (tickRefusal M time w) (B .stateOf w) last bad

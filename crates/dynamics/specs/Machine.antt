@@ -7,7 +7,7 @@ use lib.ListN.{length}
 use lib.Ieee.{Float, binary64, fits}
 use lib.Ieee.Scale.{finite}
 use Rattle.dynamics.specs.Previous.{runsBack}
-use Rattle.dynamics.specs.Answer.{Outputs, silent, emitted, updated, ticked, refusalOf, skipped, accept}
+use Rattle.dynamics.specs.Answer.{Outputs, silent, emitted, updated, ticked, refusalOf, skipped, formRefusal, accept}
 use Rattle.dynamics.specs.declared.call.Answer.{Answer}
 use Rattle.dynamics.specs.declared.call.Inputs.{Inputs}
 use Rattle.dynamics.specs.declared.call.Length.{Length}
@@ -40,10 +40,10 @@ module _ (M : Machine) where
   -- ---- why a call is refused, 0 if not. State length tests 2; start tests 1 to 3; sound and decoding test 2, 3, 6;
   -- emit and update of a block skip 1 and 4, and no call on one block has a sheet to test
   unfoldable pub lengthRefusal : ℕ
-  lengthRefusal = refusalOf skipped (M .accepts) skipped skipped skipped skipped skipped
+  lengthRefusal = formRefusal (M .accepts) skipped
 
   unfoldable pub startRefusal : List ℕ → ℕ
-  startRefusal w = refusalOf skipped (M .accepts) (sized w) skipped skipped skipped skipped
+  startRefusal w = formRefusal (M .accepts) (sized w)
 
   unfoldable pub decodeRefusal : List ℕ → ℕ
   decodeRefusal w = refusalOf skipped (M .accepts) (sized w) skipped skipped (M .decodes w) skipped

@@ -7,8 +7,8 @@ use borrow.Author.Tests.{lt-ltb, le-ltb}
 use lib.Ieee.{Float, nan, inf, fin, binary64, toBits, fits, isNan, nanBits, ne, lt}
 use lib.Ieee.Bits.{ofBits-toBits, toBits-lt, ofBits-fits, toBits-ofBits, nanBits-is, nanBits-above}
 use lib.Ieee.Compare.{differs-from-itself, nan-differs}
-use Rattle.reals.specs.Words.{realOf, wordOf, canonicalWord, flagOf, wordOfFlag}
 use lib.Ieee.Scale.{finite}
+use Rattle.reals.specs.Words.{realOf, wordOf, canonicalWord, flagOf, wordOfFlag}
 
 -- ---- which patterns and which reals are NaN
 pub nan-of : (x : Float) → isNan x ≡ true → x ≡ nan

@@ -36,20 +36,6 @@ module _ (M : Machine) (w : List ℕ) where
   unfolding startRefusal formRefusal
   start-passed z = let (_, s, l, _, _, _, _) = all-passed true (M .accepts) (sized M w) true true true true z in (s, l)
 
-  -- a start makes tests 2 and 3 only. One that fails there is the first that fails in every call; where both pass, the others decide
-  pub start-fails : (time state order : Bool) {n : ℕ} → n ≡ startRefusal M w → (n ≡ 0 → ⊥) → n ≡ refusalOf skipped (M .accepts) (sized M w) skipped time state order
-  unfolding startRefusal formRefusal
-  start-fails time state order e h = go (M .accepts) (sized M w) e h
-    where
-      go : (s l : Bool) {n : ℕ} → n ≡ refusalOf skipped s l skipped skipped skipped skipped → (n ≡ 0 → ⊥) → n ≡ refusalOf skipped s l skipped time state order
-      go true true e h = absurd (h (unfold refusalOf in e))
-      go true false e h = unfold refusalOf in e
-      go false l e h = unfold refusalOf in e
-
-  pub start-passes : (time state order : Bool) → startRefusal M w ≡ 0
-      → refusalOf skipped skipped skipped skipped time state order ≡ refusalOf skipped (M .accepts) (sized M w) skipped time state order
-  start-passes time state order z = let (s, l) = start-passed z in simp (s, l)
-
   pub start-accepted : (v : List ℕ) {w' : List ℕ} → length v ≡ M .size → v ≡ M .fresh → 0 ≡ startRefusal M w → w' ≡ stored w v
       → Gives (startRefusal M w) (startedWords M w) 0 w'
   unfolding startedWords

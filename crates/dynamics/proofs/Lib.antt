@@ -4,4 +4,5 @@ pub mod Copies
 pub mod Accepted
 pub mod Calls
 pub mod Histories
+pub mod Gaps
 pub mod Steps

@@ -6,17 +6,17 @@ use Prim.Native.Nat.{ℕ, zero, suc}
 use native.Mathlib.Omega.{arith}
 use lib.Ieee.{Float}
 use lib.Dec.{eqb}
-use lib.ListN.{length}
-use Rattle.dynamics.specs.Previous.{soundPrevious}
-use Rattle.dynamics.specs.Answer.{silent, emitted, formRefusal, timeRefusal, accept}
+use lib.ListN.{length, getD}
+use Rattle.dynamics.specs.Previous.{previousOf}
+use Rattle.dynamics.specs.Answer.{silent, emitted, formRefusal, tickTests, decodeTests, accept}
 use Rattle.dynamics.specs.Region.{stored, Gives}
 use Rattle.dynamics.specs.Machine.{Machine, startRefusal, startedWords, Reading, decodeRefusal, decodeAnswer, isSound, tickRefusal, emitAnswer, updateAnswer, updatedWords, tickAnswer}
 use Rattle.dynamics.specs.Stepped.{Stepped, machineOf, openedAs}
 use Rattle.dynamics.specs.declared.call.Answer.{Answer}
 use Rattle.dynamics.specs.declared.call.Inputs.{Inputs}
-use Rattle.dynamics.proofs.Accepted.{accepted, refused-6, refused-none}
+use Rattle.dynamics.proofs.Accepted.{accepted}
 use Rattle.dynamics.proofs.Accepted as by
-use Rattle.dynamics.proofs.Calls.{sound-decodes, start-fails, start-passes, start-refused, start-accepted, emit-refused, emit-accepted, update-refused, update-accepted, tick-refused, tick-accepted}
+use Rattle.dynamics.proofs.Calls.{sound-decodes, start-refused, start-accepted, emit-refused, emit-accepted, update-refused, update-accepted, tick-refused, tick-accepted}
 
 -- A decoding enum: its two cases, document 01's number and values of each, and that they are two.
 pub record Enum (S D : Type 0) : Type 0 where
@@ -65,7 +65,19 @@ module _ {S D : Type 0} (E : Enum S D) where
   was-state zero x s d = (refl, sym (ap (λ (r : Reading S). r .state) (sym (E .reads-state x) ∙ ap (E .reads) d ∙ E .reads-state s)))
   was-state (suc n) x s d = absurd (E .apart s (suc n) (sym d))
 
-module _ {S D : Type 0} (E : Enum S D) (B : Stepped S) (counted : (s : S) → length (B .wordsOf s) ≡ B .size) where
+-- Blocks with settings X whose calls open such an enum first; a state has as many words as the block says.
+pub record Opens (X S D : Type 0) : Type 0 where
+  pub enum : Enum S D
+  pub block : X → Stepped S
+  pub counted : (b : X) (s : S) → length (block b .wordsOf s) ≡ block b .size
+
+module _ {X S D : Type 0} (O : Opens X S D) (b : X) where
+  abbrev E : Enum S D
+  E = O .enum
+
+  abbrev B : Stepped S
+  B = O .block b
+
   abbrev M : Machine
   M = machineOf B
 
@@ -112,63 +124,52 @@ module _ {S D : Type 0} (E : Enum S D) (B : Stepped S) (counted : (s : S) → le
 
           pub update-then : {x : Answer} → x ≡ silent 0 → Gives (updateAnswer M time i w) (updatedWords M time i w) x w'
           unfolding machineOf
-          update-then x = update-accepted M time i w (B .wordsOf s') (counted s') ok x next l
+          update-then x = update-accepted M time i w (B .wordsOf s') (O .counted b s') ok x next l
 
           pub tick-then : {x : Answer} → x ≡ emitted (B .output s time i) → Gives (tickAnswer M time i w) (updatedWords M time i w) x w'
           unfolding machineOf
-          tick-then x = tick-accepted M time i w (B .wordsOf s') (counted s') ok (x ∙ ap (λ (q : S). emitted (B .output q time i)) here) next l
+          tick-then x = tick-accepted M time i w (B .wordsOf s') (O .counted b s') ok (x ∙ ap (λ (q : S). emitted (B .output q time i)) here) next l
 
-  -- ---- opening, in the order of the table: tests 2 and 3, then the state is read, then the others
-  module _ (w : List ℕ) {a : Bool} (settings : a ≡ B .accepts) {n : ℕ} (formed : n ≡ formRefusal a (eqb (length w) (B .size))) where
-    form : n ≡ startRefusal M w
-    unfolding startRefusal machineOf
-    form = formed ∙ ap (λ (q : Bool). formRefusal q (eqb (length w) (B .size))) settings
+  -- ---- opening, and what starts and sound give: a block tells each number by its tests on the region
+  module _ (w : List ℕ) {n : ℕ} where
+    module _ (form : n ≡ startRefusal M w) where
+      pub start-else : (n ≡ 0 → ⊥) → Gives (startRefusal M w) (startedWords M w) n w
+      start-else bad = start-refused M w form bad
 
-    module _ (bad : n ≡ 0 → ⊥) where
-      pub start-form : Gives (startRefusal M w) (startedWords M w) n w
-      start-form = start-refused M w form bad
-
-      pub decode-form : E .refused n ≡ Opened E (decodeRefusal M w) (B .stateOf w)
-      unfolding decodeRefusal machineOf
-      decode-form = open-refused E (decodeRefusal M w) (B .stateOf w) (start-fails M w _ _ _ form bad) bad
-
-      pub admit-form : (time : Float) → E .refused n ≡ Opened E (tickRefusal M time w) (B .stateOf w)
-      unfolding tickRefusal machineOf
-      admit-form time = open-refused E (tickRefusal M time w) (B .stateOf w) (start-fails M w _ _ _ form bad) bad
-
-    module _ (good : n ≡ 0) where
-      fine : startRefusal M w ≡ 0
-      fine = sym form ∙ good
-
-      pub start-then : {w' : List ℕ} → w' ≡ stored w (B .wordsOf (B .initial)) → Gives (startRefusal M w) (startedWords M w) 0 w'
+      pub start-then : n ≡ 0 → {w' : List ℕ} → w' ≡ stored w (B .wordsOf (B .initial)) → Gives (startRefusal M w) (startedWords M w) 0 w'
       unfolding machineOf
-      start-then l = start-accepted M w (B .wordsOf (B .initial)) (counted (B .initial)) refl (sym fine) l
+      start-then z l = start-accepted M w (B .wordsOf (B .initial)) (O .counted b (B .initial)) refl (sym z ∙ form) l
 
-      module _ {s : S} (e : s ≡ B .stateOf w) where
-        -- what the state tells of the words
-        told : {b : Bool} → b ≡ soundPrevious (B .previous s) → b ≡ soundPrevious (B .previous (B .stateOf w))
-        told d = d ∙ ap (λ (q : S). soundPrevious (B .previous q)) e
+    module _ (tests : n ≡ decodeRefusal M w) where
+      pub decode-else : (n ≡ 0 → ⊥) → E .refused n ≡ Opened E (decodeRefusal M w) (B .stateOf w)
+      decode-else bad = open-refused E (decodeRefusal M w) (B .stateOf w) tests bad
 
-        pub decode-then : {b : Bool} → b ≡ soundPrevious (B .previous s) → b ≡ true → E .state s ≡ Opened E (decodeRefusal M w) (B .stateOf w)
-        unfolding decodeRefusal machineOf
-        decode-then d t = open-state E (decodeRefusal M w) (B .stateOf w) (refused-none _ _ _ _ _ refl refl refl (sym (told d) ∙ t) refl ∙ start-passes M w _ _ _ fine) e
+      pub decode-then : n ≡ 0 → {s : S} → s ≡ B .stateOf w → E .state s ≡ Opened E (decodeRefusal M w) (B .stateOf w)
+      decode-then z e = open-state E (decodeRefusal M w) (B .stateOf w) (sym z ∙ tests) e
 
-        pub decode-else : {b : Bool} → b ≡ soundPrevious (B .previous s) → b ≡ false → E .refused 6 ≡ Opened E (decodeRefusal M w) (B .stateOf w)
-        unfolding decodeRefusal machineOf
-        decode-else d t = open-refused E (decodeRefusal M w) (B .stateOf w) (refused-6 _ _ _ _ _ refl refl refl (sym (told d) ∙ t) ∙ start-passes M w _ _ _ fine) (λ z. omega arith)
+      -- it is sound exactly if it decodes
+      pub sound-number : eqb n 0 ≡ isSound M w
+      unfolding machineOf
+      sound-number = rw tests (sym (sound-decodes M w refl))
 
-        module _ (time : Float) {b : Bool} (d : b ≡ soundPrevious (B .previous s)) {k : ℕ} (t : k ≡ timeRefusal time b (B .previous s)) where
-          last : k ≡ tickRefusal M time w
-          unfolding tickRefusal timeRefusal machineOf
-          last = t ∙ rw (told d, e) (start-passes M w _ _ _ fine)
+    module _ (time : Float) (tests : n ≡ tickRefusal M time w) where
+      pub admit-else : (n ≡ 0 → ⊥) → E .refused n ≡ Opened E (tickRefusal M time w) (B .stateOf w)
+      admit-else bad = open-refused E (tickRefusal M time w) (B .stateOf w) tests bad
 
-          pub admit-then : k ≡ 0 → E .state s ≡ Opened E (tickRefusal M time w) (B .stateOf w)
-          admit-then z = open-state E (tickRefusal M time w) (B .stateOf w) (sym z ∙ last) e
+      pub admit-then : n ≡ 0 → {s : S} → s ≡ B .stateOf w → E .state s ≡ Opened E (tickRefusal M time w) (B .stateOf w)
+      admit-then z e = open-state E (tickRefusal M time w) (B .stateOf w) (sym z ∙ tests) e
 
-          pub admit-else : (k ≡ 0 → ⊥) → E .refused k ≡ Opened E (tickRefusal M time w) (B .stateOf w)
-          admit-else bad = open-refused E (tickRefusal M time w) (B .stateOf w) last bad
+-- ---- the tests themselves, where the previous time is the word at a place
+module _ {S : Type 0} (B : Stepped S) (w : List ℕ) {a : Bool} (settings : a ≡ B .accepts) {n : ℕ} where
+  pub start-tested : n ≡ formRefusal a (eqb (length w) (B .size)) → n ≡ startRefusal (machineOf B) w
+  unfolding startRefusal machineOf
+  start-tested e = rw settings at e
 
-  -- it is sound exactly if it decodes
-  pub sound-number : (w : List ℕ) {k : ℕ} → k ≡ E .reads (Opened E (decodeRefusal M w) (B .stateOf w)) .refusal → eqb k 0 ≡ isSound M w
-  unfolding machineOf
-  sound-number w e = rw (e ∙ opened-number E (decodeRefusal M w) (B .stateOf w)) (sym (sound-decodes M w refl))
+  module _ (place : ℕ) (placed : (v : List ℕ) → B .previous (B .stateOf v) ≡ previousOf (getD v place 0)) where
+    pub decode-tested : n ≡ decodeTests a (B .size) place w → n ≡ decodeRefusal (machineOf B) w
+    unfolding decodeRefusal decodeTests machineOf
+    decode-tested e = rw (placed w) (rw settings at e)
+
+    pub tick-tested : (time : Float) → n ≡ tickTests a (B .size) place time w → n ≡ tickRefusal (machineOf B) time w
+    unfolding tickRefusal tickTests machineOf
+    tick-tested time e = rw (placed w) (rw settings at e)

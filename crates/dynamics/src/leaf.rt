@@ -2,6 +2,12 @@
 ghost use mathlib.Core.Path.{_≡_};
 ghost use Rattle.dynamics.specs.Leaves.{accumulated, filtered, positiveDuration, raisedTo, rising};
 
+// What a tick of a delay or a hold gives: its output, and the timer to store.
+pub struct Timed {
+    pub y: bool,
+    pub timer: f64,
+}
+
 // x with slope * dt added on.
 pub fn forward_euler_accumulate(x: f64, slope: f64, dt: f64) -> f64
     ensures { λ r. ⌜ r ≡ accumulated x slope dt ⌝ }

@@ -1,1 +1,2 @@
 pub mod TimerAccumulating
+pub mod Account

@@ -25,25 +25,27 @@ use Rattle.timer_accumulating.specs.declared.state.Decoded.the-variants 
 abbrev pub counts : State → Bool → Bool
 counts s input = not (isFirst (s .previous)) && (s .input && input)
 
--- `y_now`: 0.0 on a rising reset, else the total so far with the gap on top if it counts
+-- `y_now`: 0.0 on a wiping tick, else the total so far with the gap on top if it counts
 unfoldable pub yNow : State → Float → Bool → Bool → Float
-yNow s time input reset =
-    cond (rising reset (s .reset)) 0·0
+yNow s time input wipes =
+    cond wipes 0·0
     (cond (counts s input) (add binary64 (s .total) (gap time (s .previous)))
     (s .total))
 
--- `passed_now`: a rising reset and a rising input sample the total, reaching t sets it, else it holds
+-- `passed_now`: a wiping tick and a rising input sample the total, reaching t sets it, else it holds
 unfoldable pub passedNow : TimerAccumulating → State → Bool → Bool → Float → Bool
-passedNow b s input reset y =
-    cond (rising reset (s .reset)) (le (b .t) 0·0)
+passedNow b s input wipes y =
+    cond wipes (le (b .t) 0·0)
     (cond (rising input (s .input)) (le (b .t) (s .total))
     (cond (input && le (b .t) y) true
     (s .passed)))
 
+-- a rising reset wipes
 unfoldable pub next : TimerAccumulating → State → Float → Bool → Bool → State
 next b s time input reset =
-    let y = yNow s time input reset in
-    record { total = y; previous = At time; input = input; reset = reset; passed = passedNow b s input reset y }
+    let wipes = rising reset (s .reset) in
+    let y = yNow s time input wipes in
+    record { total = y; previous = At time; input = input; reset = reset; passed = passedNow b s input wipes y }
 
 -- a tick's two inputs are its first words
 unfoldable pub advance : TimerAccumulating → State → Float → Inputs → State

@@ -18,11 +18,11 @@ fn gap_counts(s: State, input: bool) -> bool
     !is_first_tick(previous) & (s.input & input)
 }
 
-// The total as of this tick.
-fn y_now(s: State, time: f64, input: bool, reset: bool) -> f64
-    ensures { λ r. ⌜ r ≡ yNow s time input reset ⌝ }
+// The total as of this tick, which may wipe it.
+fn y_now(s: State, time: f64, input: bool, wipes: bool) -> f64
+    ensures { λ r. ⌜ r ≡ yNow s time input wipes ⌝ }
 {
-    if is_rising(reset, s.reset) {
+    if wipes {
         return 0.0;
     }
     if gap_counts(s, input) {
@@ -33,10 +33,10 @@ fn y_now(s: State, time: f64, input: bool, reset: bool) -> f64
 }
 
 // Whether the timer has passed as of this tick, whose total is y.
-fn passed_now(settings: TimerAccumulating, s: State, input: bool, reset: bool, y: f64) -> bool
-    ensures { λ r. ⌜ r ≡ passedNow settings s input reset y ⌝ }
+fn passed_now(settings: TimerAccumulating, s: State, input: bool, wipes: bool, y: f64) -> bool
+    ensures { λ r. ⌜ r ≡ passedNow settings s input wipes y ⌝ }
 {
-    if is_rising(reset, s.reset) {
+    if wipes {
         return settings.t <= 0.0;
     }
     if is_rising(input, s.input) {
@@ -54,12 +54,13 @@ pub fn step(settings: TimerAccumulating, s: State, time: f64, inputs: Inputs) ->
 {
     let input = flag_of(inputs.first);
     let reset = flag_of(inputs.second);
-    let y = y_now(s, time, input, reset);
+    let wipes = is_rising(reset, s.reset);
+    let y = y_now(s, time, input, wipes);
     State {
         total: y,
         previous: Previous::At(time),
         input,
         reset,
-        passed: passed_now(settings, s, input, reset, y),
+        passed: passed_now(settings, s, input, wipes, y),
     }
 }

@@ -6,7 +6,7 @@ use Rattle.timer_accumulating.proofs.step.step.Tie as tie
 
 returns : tie.Need-returns
 unfolding advance next
-returns c = simp (c .passed-now .ensures, c .before .y-now .ensures, c .before .before .flag-of2 .ensures, c .before .before .before .flag-of .ensures)
+returns c = simp (c .passed-now .ensures, c .before .y-now .ensures, c .before .before .is-rising .ensures, c .before .before .before .flag-of2 .ensures, c .before .before .before .before .flag-of .ensures)
 
 pub step-spec : {M : Type 1} → statement M
-step-spec = tie.close (tie.spec (λ c κs. search needs) (λ c κs. search needs) (λ c κs. search needs) (λ c κs. search needs) returns)
+step-spec = tie.close (tie.spec (λ c κs. search needs) (λ c κs. search needs) (λ c κs. search needs) (λ c κs. search needs) (λ c κs. search needs) returns)

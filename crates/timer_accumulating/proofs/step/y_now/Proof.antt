@@ -8,15 +8,15 @@ use Rattle.timer_accumulating.proofs.step.y_now.Tie as tie
 
 returns : tie.Need-returns
 unfolding ofBits
-returns c = y-wiped _ _ _ _ (sym (c .before .is-rising .ensures) ∙ c .if1 .taken)
+returns c = y-wiped _ _ _ _ (c .if1 .taken)
 
 returns-2 : tie.Need-returns-2
 returns-2 c =
     let d = c .before .before .before in
-    y-grown _ _ _ _ (sym (d .before .before .is-rising .ensures) ∙ d .before .if1 .left) (sym (d .gap-counts .ensures) ∙ c .before .before .if2 .taken) (c .before .tick-dt .ensures)
+    y-grown _ _ _ _ (d .before .if1 .left) (sym (d .gap-counts .ensures) ∙ c .before .before .if2 .taken) (c .before .tick-dt .ensures)
 
 returns-3 : tie.Need-returns-3
-returns-3 c = y-kept _ _ _ _ (sym (c .before .before .before .is-rising .ensures) ∙ c .before .before .if1 .left) (sym (c .before .gap-counts .ensures) ∙ c .if2 .left)
+returns-3 c = y-kept _ _ _ _ (c .before .before .if1 .left) (sym (c .before .gap-counts .ensures) ∙ c .if2 .left)
 
 pub y-now-spec : {M : Type 1} → statement M
-y-now-spec = tie.close (tie.spec (λ c κs. search needs) returns (λ c κs. search needs) (λ c κs. search needs) returns-2 returns-3)
+y-now-spec = tie.close (tie.spec returns (λ c κs. search needs) (λ c κs. search needs) returns-2 returns-3)

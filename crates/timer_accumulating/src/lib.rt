@@ -13,7 +13,6 @@ use dynamics::tick_refusal;
 use reals::is_finite;
 use state::PREV_T_WORD;
 use state::STATE_LEN;
-use state::number_of;
 use state::state_of;
 use state::write;
 use step::step;
@@ -24,6 +23,7 @@ ghost use Rattle.dynamics.specs.Machine.{startRefusal, decodeRefusal, tickRefus
 ghost use Rattle.timer_accumulating.specs.TimerAccumulating.{settingsAccepted, initial, machine, opened};
 pub use state::Decoded;
 pub use state::State;
+pub use state::number_of;
 
 // It passes when the total reaches t.
 pub struct TimerAccumulating {

@@ -11,19 +11,18 @@ use dynamics::form_refusal;
 use dynamics::silent;
 use dynamics::tick_refusal;
 use reals::is_finite;
+pub use state::Decoded;
 use state::PREV_T_WORD;
 use state::STATE_LEN;
+pub use state::State;
+pub use state::number_of;
 use state::state_of;
 use state::write;
 use step::step;
 ghost use mathlib.Core.Path.{_≡_};
-ghost use lib.Ieee.Scale.{finite};
 ghost use Rattle.dynamics.specs.Region.{Gives};
 ghost use Rattle.dynamics.specs.Machine.{startRefusal, decodeRefusal, tickRefusal, startedWords, isSound, emitAnswer, updateAnswer, updatedWords, tickAnswer};
 ghost use Rattle.timer_accumulating.specs.TimerAccumulating.{settingsAccepted, initial, machine, opened};
-pub use state::Decoded;
-pub use state::State;
-pub use state::number_of;
 
 // It passes when the total reaches t.
 pub struct TimerAccumulating {

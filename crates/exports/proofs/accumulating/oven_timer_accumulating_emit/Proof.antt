@@ -1,0 +1,12 @@
+-- `accumulating::oven_timer_accumulating_emit` is its call over words. Assumes nothing.
+use mathlib.Core.Path.{ap, _∙_}
+use borrow.Author.Needs.{needs}
+use Rattle.exports.specs.Boundary.{answerWords}
+use Rattle.exports.proofs.accumulating.oven_timer_accumulating_emit.Statement.{statement}
+use Rattle.exports.proofs.accumulating.oven_timer_accumulating_emit.Tie as tie
+
+returns : tie.Need-returns
+returns c = rw (← c .before .before .before .real-of .ensures, ← c .before .before .real-of2 .ensures) (c .answer-words .ensures ∙ ap answerWords (c .before .emit .ensures))
+
+pub oven-timer-accumulating-emit-spec : {M : Type 1} → statement M
+oven-timer-accumulating-emit-spec = tie.close (tie.spec (λ c κs. search needs) (λ c κs. search needs) (λ c κs. search needs) (λ c κs. search needs) returns)

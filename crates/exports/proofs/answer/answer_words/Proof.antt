@@ -1,0 +1,12 @@
+-- `answer::answer_words` is the answer in words. Assumes nothing.
+use borrow.Author.Needs.{needs}
+use Rattle.exports.specs.Boundary.{answerWords}
+use Rattle.exports.proofs.answer.answer_words.Statement.{statement}
+use Rattle.exports.proofs.answer.answer_words.Tie as tie
+
+returns : tie.Need-returns
+unfolding answerWords
+returns c = simp (c .word-of-flag2 .ensures, c .before .word-of-flag .ensures, c .before .before .word-of .ensures)
+
+pub answer-words-spec : {M : Type 1} → statement M
+answer-words-spec = tie.close (tie.spec (λ c κs. search needs) (λ c κs. search needs) (λ c κs. search needs) returns)

@@ -1,0 +1,27 @@
+// Answers as they cross to C and Rust: in words, since compiled code may give a NaN any bits.
+use dynamics::Answer;
+use reals::word_of;
+use reals::word_of_flag;
+ghost use mathlib.Core.Path.{_≡_};
+ghost use Rattle.exports.specs.Boundary.{answerWords};
+
+// The refusal number, the real's bits, and the two booleans as 0 or 1.
+#[repr(C)]
+pub struct AnswerWords {
+    pub refusal: u64,
+    pub real: u64,
+    pub boolean: u64,
+    pub warning: u64,
+}
+
+// An answer in words.
+pub fn answer_words(a: Answer) -> AnswerWords
+    ensures { λ r. ⌜ r ≡ answerWords a ⌝ }
+{
+    AnswerWords {
+        refusal: a.refusal,
+        real: word_of(a.real),
+        boolean: word_of_flag(a.boolean),
+        warning: word_of_flag(a.warning),
+    }
+}

@@ -9,6 +9,7 @@ use lib.Ieee.Scale.{finite}
 use Rattle.reals.specs.Words.{0·0}
 use Rattle.dynamics.specs.Previous.{previousOf, soundPrevious, runsBack}
 use Rattle.dynamics.specs.declared.call.Answer.{Answer}
+use Rattle.dynamics.specs.declared.call.Length.{Length}
 use Rattle.dynamics.specs.declared.previous.Previous.{Previous}
 
 -- ---- outputs: an output that a block lacks is 0.0 or false
@@ -84,3 +85,7 @@ decodeTests settings size place w = refusalOf skipped settings (eqb (length w) s
 unfoldable pub accept : {X : Type 0} → ℕ → X → X → X
 accept zero x y = x
 accept (suc n) x y = y
+
+-- a state length tests 2 alone
+unfoldable pub lengthOf : (settings : Bool) (size : ℕ) → Length
+lengthOf settings size = record { refusal = formRefusal settings skipped; length = accept (formRefusal settings skipped) size 0 }

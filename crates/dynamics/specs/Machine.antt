@@ -7,7 +7,7 @@ use lib.ListN.{length}
 use lib.Ieee.{Float, binary64, fits}
 use lib.Ieee.Scale.{finite}
 use Rattle.dynamics.specs.Previous.{runsBack}
-use Rattle.dynamics.specs.Answer.{Outputs, silent, emitted, updated, ticked, refusalOf, skipped, formRefusal, accept}
+use Rattle.dynamics.specs.Answer.{Outputs, silent, emitted, updated, ticked, refusalOf, skipped, formRefusal, accept, lengthOf}
 use Rattle.dynamics.specs.declared.call.Answer.{Answer}
 use Rattle.dynamics.specs.declared.call.Inputs.{Inputs}
 use Rattle.dynamics.specs.declared.call.Length.{Length}
@@ -37,11 +37,8 @@ module _ (M : Machine) where
   abbrev pub sized : List ℕ → Bool
   sized w = eqb (length w) (M .size)
 
-  -- ---- why a call is refused, 0 if not. State length tests 2; start tests 1 to 3; sound and decoding test 2, 3, 6;
+  -- ---- why a call is refused, 0 if not. Start tests 1 to 3; sound and decoding test 2, 3, 6;
   -- emit and update of a block skip 1 and 4, and no call on one block has a sheet to test
-  unfoldable pub lengthRefusal : ℕ
-  lengthRefusal = formRefusal (M .accepts) skipped
-
   unfoldable pub startRefusal : List ℕ → ℕ
   startRefusal w = formRefusal (M .accepts) (sized w)
 
@@ -53,7 +50,7 @@ module _ (M : Machine) where
 
   -- ---- what a call gives
   unfoldable pub lengthAnswer : Length
-  lengthAnswer = record { refusal = lengthRefusal; length = accept lengthRefusal (M .size) 0 }
+  lengthAnswer = lengthOf (M .accepts) (M .size)
 
   unfoldable pub isSound : List ℕ → Bool
   isSound w = eqb (refusalOf skipped (M .accepts) (sized w) skipped skipped (M .sound w) skipped) 0

@@ -1,6 +1,6 @@
 // What a call on one block brings, and what it answers. Answers are made here and nowhere else.
 ghost use mathlib.Core.Path.{_≡_};
-ghost use Rattle.dynamics.specs.Answer.{silent, emitted, updated, realOutput, booleanOutput, bothOutputs};
+ghost use Rattle.dynamics.specs.Answer.{silent, emitted, updated, realOutput, booleanOutput, bothOutputs, lengthOf};
 
 // What a tick brings besides its time; a block reads as many words as it has inputs.
 pub struct Inputs {
@@ -66,4 +66,20 @@ pub fn warning_answer(warning: bool) -> Answer
     let mut answer = silent(0);
     answer.warning = warning;
     answer
+}
+
+// A state length, if the settings are accepted.
+pub fn length_answer(settings: bool, size: usize) -> Length
+    ensures { λ r. ⌜ r ≡ lengthOf settings size ⌝ }
+{
+    if settings {
+        return Length {
+            refusal: 0,
+            length: size,
+        };
+    }
+    Length {
+        refusal: 2,
+        length: 0,
+    }
 }

@@ -10,6 +10,7 @@ pub use call::Inputs;
 pub use call::Length;
 pub use call::boolean_answer;
 pub use call::both_answer;
+pub use call::length_answer;
 pub use call::real_answer;
 pub use call::silent;
 pub use call::warning_answer;

@@ -1,6 +1,8 @@
 // `TimerAccumulating` over words: t, the time and the inputs as words, then the region.
 use crate::answer::AnswerWords;
+use crate::answer::LengthWords;
 use crate::answer::answer_words;
+use crate::answer::length_words;
 use dynamics::Inputs;
 use reals::real_of;
 use timer_accumulating::TimerAccumulating;
@@ -8,13 +10,22 @@ use timer_accumulating::decode;
 use timer_accumulating::emit;
 use timer_accumulating::number_of;
 use timer_accumulating::start;
+use timer_accumulating::state_length;
 use timer_accumulating::tick;
 use timer_accumulating::update;
 ghost use mathlib.Core.Path.{_≡_};
 ghost use Rattle.reals.specs.Words.{realOf};
 ghost use Rattle.dynamics.specs.Region.{Gives};
-ghost use Rattle.dynamics.specs.Machine.{startRefusal, decodeRefusal, startedWords, emitAnswer, updateAnswer, updatedWords, tickAnswer};
-ghost use Rattle.exports.specs.Boundary.{answerWords, twoInputs, timerAccumulating};
+ghost use Rattle.dynamics.specs.Machine.{lengthAnswer, startRefusal, decodeRefusal, startedWords, emitAnswer, updateAnswer, updatedWords, tickAnswer};
+ghost use Rattle.exports.specs.Boundary.{answerWords, lengthWords, twoInputs, timerAccumulating};
+
+// How many words its region has.
+#[no_mangle]
+pub extern "C" fn oven_timer_accumulating_length(t: u64) -> LengthWords
+    ensures { λ r. ⌜ r ≡ lengthWords (lengthAnswer (timerAccumulating t)) ⌝ }
+{
+    length_words(state_length(TimerAccumulating { t: real_of(t) }))
+}
 
 // Writes the words of a fresh timer. The refusal number; 0 is accepted.
 #[no_mangle]

@@ -1,9 +1,10 @@
 // Answers as they cross to C and Rust: in words, since compiled code may give a NaN any bits.
 use dynamics::Answer;
+use dynamics::Length;
 use reals::word_of;
 use reals::word_of_flag;
 ghost use mathlib.Core.Path.{_≡_};
-ghost use Rattle.exports.specs.Boundary.{answerWords};
+ghost use Rattle.exports.specs.Boundary.{answerWords, lengthWords};
 
 // The refusal number, the real's bits, and the two booleans as 0 or 1.
 #[repr(C)]
@@ -23,5 +24,22 @@ pub fn answer_words(a: Answer) -> AnswerWords
         real: word_of(a.real),
         boolean: word_of_flag(a.boolean),
         warning: word_of_flag(a.warning),
+    }
+}
+
+// A refusal number and a state length.
+#[repr(C)]
+pub struct LengthWords {
+    pub refusal: u64,
+    pub length: u64,
+}
+
+// A length in words.
+pub fn length_words(l: Length) -> LengthWords
+    ensures { λ r. ⌜ r ≡ lengthWords l ⌝ }
+{
+    LengthWords {
+        refusal: l.refusal,
+        length: l.length as u64,
     }
 }

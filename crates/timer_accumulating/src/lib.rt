@@ -4,10 +4,12 @@ mod step;
 
 use dynamics::Answer;
 use dynamics::Inputs;
+use dynamics::Length;
 use dynamics::Previous;
 use dynamics::both_answer;
 use dynamics::decode_refusal;
 use dynamics::form_refusal;
+use dynamics::length_answer;
 use dynamics::silent;
 use dynamics::tick_refusal;
 use reals::is_finite;
@@ -21,7 +23,7 @@ use state::write;
 use step::step;
 ghost use mathlib.Core.Path.{_≡_};
 ghost use Rattle.dynamics.specs.Region.{Gives};
-ghost use Rattle.dynamics.specs.Machine.{startRefusal, decodeRefusal, tickRefusal, startedWords, isSound, emitAnswer, updateAnswer, updatedWords, tickAnswer};
+ghost use Rattle.dynamics.specs.Machine.{lengthAnswer, startRefusal, decodeRefusal, tickRefusal, startedWords, isSound, emitAnswer, updateAnswer, updatedWords, tickAnswer};
 ghost use Rattle.timer_accumulating.specs.TimerAccumulating.{settingsAccepted, initial, machine, opened};
 
 // It passes when the total reaches t.
@@ -45,6 +47,13 @@ fn init_state(settings: TimerAccumulating) -> State
         reset: false,
         passed: settings.t <= 0.0,
     }
+}
+
+// How many words its region has.
+pub fn state_length(settings: TimerAccumulating) -> Length
+    ensures { λ r. ⌜ r ≡ lengthAnswer (machine settings) ⌝ }
+{
+    length_answer(settings_accepted(settings), STATE_LEN)
 }
 
 // Writes the words of a fresh timer. The refusal number; 0 is accepted.

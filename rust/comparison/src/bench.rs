@@ -1,8 +1,12 @@
 //! Times the ticks of a block on fixed inputs. Whatever can tick is timed by the same driver.
+use std::hint::black_box;
 use std::time::Instant;
 
 use crate::Kind;
+use crate::oracle::{Oracle, values};
 use Kind::*;
+use oce_blocks::{Block, Ctx, NoopDiagnostics, access};
+use oce_model::Value;
 
 /// A started block with its region.
 pub trait Ticking {
@@ -132,5 +136,47 @@ impl Case {
             }
         }
         began.elapsed().as_nanos() as f64 / ticks as f64
+    }
+}
+
+/// A published block with its region.
+pub struct Published {
+    kind: Kind,
+    block: Box<dyn Block>,
+    region: Vec<u64>,
+}
+
+impl Published {
+    #[must_use]
+    pub fn new(case: &Case) -> Published {
+        Published {
+            kind: case.kind,
+            block: access::block(case.kind, &case.settings),
+            region: Oracle::new(case.kind, &case.settings).started(),
+        }
+    }
+
+    fn emit_values(&self, time: f64, values: &[Value]) {
+        let mut keep = |_, y| {
+            black_box(y);
+        };
+        let ctx = Ctx::new(time, &NoopDiagnostics);
+        self.block
+            .emit_from_state(&ctx, values, &self.region, &mut keep);
+    }
+}
+
+impl Ticking for Published {
+    fn emit(&mut self, time: f64, inputs: &[u64; 3]) {
+        let (values, count) = values(self.kind, black_box(inputs));
+        self.emit_values(black_box(time), &values[..count]);
+    }
+
+    fn tick(&mut self, time: f64, inputs: &[u64; 3]) {
+        let (values, count) = values(self.kind, black_box(inputs));
+        self.emit_values(black_box(time), &values[..count]);
+        let ctx = Ctx::new(time, &NoopDiagnostics);
+        self.block
+            .update_state(&ctx, &values[..count], &mut self.region);
     }
 }

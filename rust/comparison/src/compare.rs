@@ -7,7 +7,7 @@ use crate::effects::effects;
 use crate::inputs::{self, Rng};
 use crate::oracle::Oracle;
 use crate::tally::{Class, Tally};
-use crate::{Answer, Calls, Kind, hex, model};
+use crate::{Answer, Calls, Kind, Update, hex, model};
 
 /// Ticks in a run.
 const TICKS: u64 = 12;
@@ -52,8 +52,8 @@ fn run(subject: &Calls, kind: Kind, r: &mut Rng, tally: &mut Tally) {
     for _ in 0..TICKS {
         run.time = inputs::tick_time(r, kind, &run.settings, &run.region);
         run.inputs = inputs::tick_inputs(r, kind);
-        run.emit();
-        run.update();
+        let emitted = run.emit();
+        run.update(emitted);
     }
 }
 
@@ -150,7 +150,8 @@ impl Run<'_> {
         });
     }
 
-    fn emit(&mut self) {
+    /// The answer that was due.
+    fn emit(&mut self) -> Answer {
         let refused = self.refusal();
         let (s, v, w) = (&self.settings, &self.inputs, &self.region);
         let got = (self.subject.emit)(self.kind, s, self.time, v, w);
@@ -163,13 +164,14 @@ impl Run<'_> {
             self.tally.see_outputs(self.kind, &due);
         }
         self.expect("emit", got, due);
+        due
     }
 
-    fn update(&mut self) {
+    /// The update, and the whole tick: its answer is the emit's with the update's warning.
+    fn update(&mut self, emitted: Answer) {
         let refused = self.refusal();
-        let (mut mine, mut theirs) = (self.region.clone(), self.region.clone());
+        let mut theirs = self.region.clone();
         let (s, v) = (&self.settings, &self.inputs);
-        let got = (self.subject.update)(self.kind, s, self.time, v, &mut mine);
         let due = match self.accepted(refused) {
             Some(oracle) => oracle.update(f64::from_bits(self.time), v, &mut theirs),
             None => Answer::refused(refused),
@@ -182,8 +184,23 @@ impl Run<'_> {
             self.tally.see(Class::Warning);
         }
         self.see_call(refused);
-        self.expect("update", got, due);
-        self.expect_words("update", &mine, &theirs);
+        let warning = due.warning;
+        self.expect_call("update", self.subject.update, due, &theirs);
+        self.expect_call(
+            "tick",
+            self.subject.tick,
+            Answer { warning, ..emitted },
+            &theirs,
+        );
         self.region = theirs;
+    }
+
+    /// Makes a call that writes, on a copy of the region, and notes how it differs.
+    fn expect_call(&mut self, name: &str, call: Update, due: Answer, words: &[u64]) {
+        let mut mine = self.region.clone();
+        let (s, v) = (&self.settings, &self.inputs);
+        let got = call(self.kind, s, self.time, v, &mut mine);
+        self.expect(name, got, due);
+        self.expect_words(name, &mine, words);
     }
 }

@@ -1,11 +1,12 @@
 //! The comparison: the Rust as published (`oracle`), a model of document 01 written apart from it
-//! (`model`), the inputs for both (`inputs`), and what is said of them call by call (`compare`),
+//! (`model`), the inputs for both (`inputs`), and what is said of them call by call (`compare`, `differ`),
 //! over histories (`histories`), on stored calls (`stored`), on text (`soak`, `sessions`) and of
 //! their speed (`bench`).
 #![forbid(unsafe_code)]
 
 pub mod bench;
 pub mod compare;
+pub mod differ;
 mod effects;
 pub mod histories;
 pub mod inputs;
@@ -53,6 +54,8 @@ pub struct Calls {
     pub start: fn(Kind, &[u64], &mut [u64]) -> u64,
     pub emit: Emit,
     pub update: Update,
+    /// A whole tick: the emit's outputs with the update's warning, and the words that it leaves.
+    pub tick: Update,
     /// The refusal of sound and of decoding: settings, region.
     pub refusal: fn(Kind, &[u64], &[u64]) -> u64,
 }

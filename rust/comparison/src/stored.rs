@@ -18,6 +18,19 @@ pub struct Stored {
     after: Vec<u64>,
 }
 
+/// The stored calls of a block.
+///
+/// # Panics
+/// If they are not stored, or a line is not a call.
+#[must_use]
+pub fn stored(kind: Kind) -> Vec<Stored> {
+    let folder = concat!(env!("CARGO_MANIFEST_DIR"), "/../../vectors/calls");
+    let path = format!("{folder}/{}.txt", kind.name());
+    let list = std::fs::read_to_string(path).expect("the list is stored");
+    let parse = |line| Stored::parse(kind, line).expect("a stored call");
+    list.lines().map(parse).collect()
+}
+
 impl Stored {
     /// The call with the Rust's answers, or with document 01's refusal.
     #[must_use]

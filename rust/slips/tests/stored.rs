@@ -1,17 +1,8 @@
 //! The stored calls hold for the model, and show every slip that an emit or update can show.
 use comparison::compare::compare;
-use comparison::stored::Stored;
+use comparison::stored::{Stored, stored};
 use comparison::{Calls, Kind, model};
 use slips::{SLIPPED, SLIPS};
-
-/// The stored calls of a block.
-fn stored(kind: Kind) -> Vec<Stored> {
-    let folder = concat!(env!("CARGO_MANIFEST_DIR"), "/../../vectors/calls");
-    let path = format!("{folder}/{}.txt", kind.name());
-    let list = std::fs::read_to_string(path).expect("the list is stored");
-    let parse = |line| Stored::parse(kind, line).expect("a stored call");
-    list.lines().map(parse).collect()
-}
 
 fn failures(calls: &[Stored], subject: &Calls) -> usize {
     calls.iter().filter(|call| !call.replay(subject)).count()

@@ -19,6 +19,7 @@ pub const CALLS: Calls = Calls {
     start,
     emit,
     update,
+    tick,
     refusal: sound_refusal,
 };
 
@@ -101,4 +102,11 @@ pub fn update(kind: Kind, s: &[u64], time: u64, inputs: &[u64], region: &mut [u6
         }
     }
     answer
+}
+
+/// A whole tick: an emit, then an update.
+pub fn tick(kind: Kind, s: &[u64], time: u64, inputs: &[u64], region: &mut [u64]) -> Answer {
+    let emitted = emit(kind, s, time, inputs, region);
+    let warning = update(kind, s, time, inputs, region).warning;
+    Answer { warning, ..emitted }
 }

@@ -1,0 +1,6 @@
+//! Compares the proved blocks with the Rust call by call: `differ_proved N SEED [BLOCK]`.
+use comparison::differ;
+
+fn main() {
+    std::process::exit(differ::run(&rattle::CALLS, &rattle::BLOCKS));
+}

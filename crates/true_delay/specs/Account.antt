@@ -22,7 +22,7 @@ inputIn h = newest false inputOf h
 abbrev pub wipes : Tick → History → Bool
 wipes k h = not (inputOf k)
 
--- the sum, from 0.0 and in order, each addition rounded, of the gaps since the input rose
+-- the sum, from 0.0 and in order, each addition rounded, of the gaps since the input rose, 0.0 where it rises
 unfoldable pub sum : History → Float
 sum started = 0·0
 sum (wiped k) = 0·0
@@ -38,7 +38,7 @@ module _ (b : TrueDelay) where
   atOnce (wiped k) = false
   atOnce (followed h k) = atOnce h
 
-  -- true when its input is true and the sum reaches the delay
+  -- the output: true when the input is true, and the sum reaches the delay or it passes at once
   unfoldable pub passes : History → Bool
   passes h = inputIn h && (atOnce h || le delay (sum h))
 

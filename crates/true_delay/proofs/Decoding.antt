@@ -1,0 +1,54 @@
+-- `TrueDelay` as the laws of blocks with a state record take it. Assumes nothing.
+use mathlib.Core.Path.{_≡_, refl}
+use mathlib.Core.Bool.{true}
+use mathlib.Core.List.{List}
+use Prim.Native.Nat.{ℕ}
+use native.Mathlib.Omega.{arith}
+use lib.ListN.{length, getD}
+use Rattle.dynamics.specs.Previous.{previousOf}
+use Rattle.dynamics.specs.Machine.{startRefusal, startedWords, decodeRefusal, decodeAnswer, isSound}
+use Rattle.dynamics.specs.Stepped.{machineOf}
+use Rattle.dynamics.proofs.Calls.{start-sound}
+use Rattle.dynamics.proofs.Steps.{Enum, Opens, decode-reads}
+use Rattle.true_delay.specs.TrueDelay.{stateOf, wordsOf, block, machine, opened, zeros, reads}
+use Rattle.true_delay.specs.declared.TrueDelay.{TrueDelay}
+use Rattle.true_delay.specs.declared.state.State.{State}
+use Rattle.true_delay.specs.declared.state.Decoded.{Decoded}
+use Rattle.true_delay.specs.declared.state.Decoded.the-variants.{Refused}
+use Rattle.true_delay.specs.declared.state.Decoded.the-variants as variant
+
+pub apart : (s : State) (n : ℕ) → variant.State s ≡ Refused n → ⊥
+apart s n e = let z : _≡_ {A = ℕ} 0 1 = cc in omega arith
+
+abbrev pub decoded : Enum State Decoded
+decoded = record {
+  state = variant.State;
+  refused = Refused;
+  zeros = zeros;
+  reads = reads;
+  reads-state = λ s. refl;
+  reads-refused = λ n. refl;
+  apart = apart;
+}
+
+-- a state has four words
+pub counted : (b : TrueDelay) (s : State) → length (wordsOf s) ≡ 4
+unfolding wordsOf
+counted b s = refl
+
+abbrev pub timer : Opens TrueDelay State Decoded
+timer = record { enum = decoded; block = block; counted = counted }
+
+-- the previous time is the second
+pub placed : (w : List ℕ) → stateOf w .previous ≡ previousOf (getD w 1 0)
+unfolding stateOf
+placed w = refl
+
+-- what decoding answers, in document 01's number and values
+pub decode-says : (b : TrueDelay) (w : List ℕ) → reads (opened (decodeRefusal (machine b) w) w) ≡ decodeAnswer (machine b) stateOf zeros w
+decode-says b w = decode-reads decoded (machine b) stateOf w
+
+-- a fresh start is sound
+pub fresh-sound : (b : TrueDelay) (w : List ℕ) → startRefusal (machine b) w ≡ 0 → isSound (machine b) (startedWords (machine b) w) ≡ true
+unfolding machineOf wordsOf stateOf previousOf
+fresh-sound b w z = start-sound (machine b) w refl refl z

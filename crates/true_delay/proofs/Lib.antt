@@ -1,0 +1,5 @@
+pub mod Cases
+pub mod Decoding
+pub mod Wiping
+pub mod TwoRegions
+pub mod OneResult

@@ -1,0 +1,2 @@
+pub mod TrueDelay
+pub mod Account

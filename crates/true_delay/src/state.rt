@@ -1,0 +1,73 @@
+// The delay's state, and its four words in a region.
+use dynamics::Previous;
+use dynamics::flag_at;
+use dynamics::previous_at;
+use dynamics::real_at;
+use dynamics::store;
+use dynamics::word_of_previous;
+use reals::word_of;
+use reals::word_of_flag;
+ghost use mathlib.Core.Path.{_≡_};
+ghost use Rattle.dynamics.specs.Region.{stored};
+ghost use Rattle.true_delay.specs.TrueDelay.{stateOf, wordsOf, reads};
+
+// Which word is which.
+const TIMER_WORD: usize = 0;
+
+pub const PREV_T_WORD: usize = 1;
+
+const PREV_U_WORD: usize = 2;
+
+const HELD_WORD: usize = 3;
+
+pub const STATE_LEN: usize = 4;
+
+// The timer, and of the previous tick its time, its input and its output.
+pub struct State {
+    pub timer: f64,
+    pub previous: Previous,
+    pub input: bool,
+    pub held: bool,
+}
+
+// A region taken apart: its state, or why it has none.
+pub enum Decoded {
+    State(State),
+    Refused(u64),
+}
+
+// The refusal number; 0 for a state.
+pub fn number_of(d: Decoded) -> u64
+    ensures { λ r. ⌜ r ≡ reads d .refusal ⌝ }
+{
+    match d {
+        Decoded::State(_) => 0,
+        Decoded::Refused(n) => n,
+    }
+}
+
+// What a region's words mean.
+pub fn state_of(region: &[u64]) -> State
+    ensures { λ r. ⌜ r ≡ stateOf (now (region .entry)) ⌝ }
+{
+    State {
+        timer: real_at(region, TIMER_WORD),
+        previous: previous_at(region, PREV_T_WORD),
+        input: flag_at(region, PREV_U_WORD),
+        held: flag_at(region, HELD_WORD),
+    }
+}
+
+// Stores a state in a region of its length.
+pub fn write(region: &mut [u64], s: State)
+    ensures { λ _. ⌜ now (region .exit) ≡ stored (now (region .entry)) (wordsOf s) ⌝ }
+{
+    let previous = s.previous;
+    let words = [
+        word_of(s.timer),
+        word_of_previous(previous),
+        word_of_flag(s.input),
+        word_of_flag(s.held),
+    ];
+    store(region, &words);
+}

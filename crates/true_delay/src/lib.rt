@@ -4,10 +4,12 @@ mod step;
 
 use dynamics::Answer;
 use dynamics::Inputs;
+use dynamics::Length;
 use dynamics::Previous;
 use dynamics::boolean_answer;
 use dynamics::decode_refusal;
 use dynamics::form_refusal;
+use dynamics::length_answer;
 use dynamics::silent;
 use dynamics::tick_refusal;
 use reals::is_finite;
@@ -21,7 +23,7 @@ use state::write;
 use step::step;
 ghost use mathlib.Core.Path.{_≡_};
 ghost use Rattle.dynamics.specs.Region.{Gives};
-ghost use Rattle.dynamics.specs.Machine.{startRefusal, decodeRefusal, tickRefusal, startedWords, isSound, emitAnswer, updateAnswer, updatedWords, tickAnswer};
+ghost use Rattle.dynamics.specs.Machine.{lengthAnswer, startRefusal, decodeRefusal, tickRefusal, startedWords, isSound, emitAnswer, updateAnswer, updatedWords, tickAnswer};
 ghost use Rattle.true_delay.specs.TrueDelay.{settingsAccepted, initial, machine, opened};
 
 // How long a true input waits, and whether one on the first tick waits too.
@@ -45,6 +47,13 @@ fn init_state() -> State
         input: false,
         held: false,
     }
+}
+
+// How many words its region has.
+pub fn state_length(settings: TrueDelay) -> Length
+    ensures { λ r. ⌜ r ≡ lengthAnswer (machine settings) ⌝ }
+{
+    length_answer(settings_accepted(settings), STATE_LEN)
 }
 
 // Writes the words of a fresh delay. The refusal number; 0 is accepted.

@@ -1,6 +1,4 @@
 -- `step::gap_counts` tells whether the gap counts. Assumes nothing.
-use mathlib.Core.Path.{ap}
-use mathlib.Core.Bool.{Bool, not, _&&_}
 use borrow.Author.Needs.{needs}
 use Rattle.timer_accumulating.proofs.step.gap_counts.Statement.{statement}
 use Rattle.timer_accumulating.proofs.step.gap_counts.Tie as tie

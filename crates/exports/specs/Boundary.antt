@@ -1,13 +1,13 @@
--- What crosses to C and Rust: words only. Definitions only.
+-- What crosses to C and Rust: words alone. Definitions only.
 use Prim.Native.Nat.{ℕ}
-use Rattle.reals.specs.Words.{realOf, wordOf, wordOfFlag}
-use Rattle.dynamics.specs.Machine.{Machine}
+use Rattle.reals.specs.Words.{realOf, wordOf, flagOf, wordOfFlag}
 use Rattle.dynamics.specs.declared.call.Answer.{Answer}
 use Rattle.dynamics.specs.declared.call.Inputs.{Inputs}
 use Rattle.dynamics.specs.declared.call.Length.{Length}
-use Rattle.timer_accumulating.specs.TimerAccumulating as accumulating
-use Rattle.exports.specs.declared.answer.AnswerWords.{AnswerWords}
-use Rattle.exports.specs.declared.answer.LengthWords.{LengthWords}
+use Rattle.timer_accumulating.specs.declared.TimerAccumulating.{TimerAccumulating}
+use Rattle.true_delay.specs.declared.TrueDelay.{TrueDelay}
+use Rattle.exports.specs.declared.boundary.AnswerWords.{AnswerWords}
+use Rattle.exports.specs.declared.boundary.LengthWords.{LengthWords}
 
 -- an answer and a length in words
 unfoldable pub answerWords : Answer → AnswerWords
@@ -16,13 +16,16 @@ answerWords a = record { refusal = a .refusal; real = wordOf (a .real); boolean 
 abbrev pub lengthWords : Length → LengthWords
 lengthWords l = record { refusal = l .refusal; length = l .length }
 
--- a tick's input words, of a block that reads so many
-abbrev pub oneInput : ℕ → Inputs
+-- what a tick brings to a block with one or two inputs
+unfoldable pub oneInput : ℕ → Inputs
 oneInput i = record { first = i; second = 0; third = 0 }
 
-abbrev pub twoInputs : ℕ → ℕ → Inputs
+unfoldable pub twoInputs : ℕ → ℕ → Inputs
 twoInputs i j = record { first = i; second = j; third = 0 }
 
--- the blocks, with their settings as words
-abbrev pub timerAccumulating : ℕ → Machine
-timerAccumulating t = accumulating.machine (record { t = realOf t })
+-- settings from words: a real by its bits, a boolean true unless 0
+unfoldable pub timerAccumulating : ℕ → TimerAccumulating
+timerAccumulating x = record { t = realOf x }
+
+unfoldable pub trueDelay : ℕ → ℕ → TrueDelay
+trueDelay x y = record { «delay_time» = realOf x; «delay_on_init» = flagOf y }

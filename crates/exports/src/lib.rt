@@ -1,4 +1,5 @@
 // The library for C and Rust: every real goes in and comes out as its word, so that a NaN has one pattern.
 pub mod accumulating;
-pub mod answer;
+pub mod boundary;
+pub mod delay;
 pub mod leaves;

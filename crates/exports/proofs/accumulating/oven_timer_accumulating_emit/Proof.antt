@@ -6,7 +6,9 @@ use Rattle.exports.proofs.accumulating.oven_timer_accumulating_emit.Sta
 use Rattle.exports.proofs.accumulating.oven_timer_accumulating_emit.Tie as tie
 
 returns : tie.Need-returns
-returns c = rw (← c .before .before .before .real-of .ensures, ← c .before .before .real-of2 .ensures) (c .answer-words .ensures ∙ ap answerWords (c .before .emit .ensures))
+returns c =
+    let i = c .before .before in
+    rw (← i .before .before .settings .ensures, ← i .before .real-of .ensures, ← i .two-inputs .ensures) (c .answer-words .ensures ∙ ap answerWords (c .before .emit .ensures))
 
 pub oven-timer-accumulating-emit-spec : {M : Type 1} → statement M
-oven-timer-accumulating-emit-spec = tie.close (tie.spec (λ c κs. search needs) (λ c κs. search needs) (λ c κs. search needs) (λ c κs. search needs) returns)
+oven-timer-accumulating-emit-spec = tie.close (tie.spec (λ c κs. search needs) (λ c κs. search needs) (λ c κs. search needs) (λ c κs. search needs) (λ c κs. search needs) returns)

@@ -6,7 +6,7 @@ use Rattle.exports.proofs.accumulating.oven_timer_accumulating_length.S
 use Rattle.exports.proofs.accumulating.oven_timer_accumulating_length.Tie as tie
 
 returns : tie.Need-returns
-returns c = rw (← c .before .before .real-of .ensures) (c .length-words .ensures ∙ ap lengthWords (c .before .state-length .ensures))
+returns c = rw (← c .before .before .settings .ensures) (c .length-words .ensures ∙ ap lengthWords (c .before .state-length .ensures))
 
 pub oven-timer-accumulating-length-spec : {M : Type 1} → statement M
 oven-timer-accumulating-length-spec = tie.close (tie.spec (λ c κs. search needs) (λ c κs. search needs) (λ c κs. search needs) returns)

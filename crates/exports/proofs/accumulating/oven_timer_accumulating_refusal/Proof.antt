@@ -9,7 +9,9 @@ use Rattle.exports.proofs.accumulating.oven_timer_accumulating_refusal.
 
 returns : tie.Need-returns
 unfolding decodeAnswer
-returns c = rw (← c .before .before .real-of .ensures) (c .number-of .ensures ∙ ap (λ d. reads d .refusal) (c .before .decode .ensures) ∙ ap (λ q. q .refusal) (decode-says (record { t = c .before .before .real-of .result }) (c .before .before .before .before .args .region .now)))
+returns c =
+    let s = c .before .before .settings in
+    rw (← s .ensures) (c .number-of .ensures ∙ ap (λ d. reads d .refusal) (c .before .decode .ensures) ∙ ap (λ q. q .refusal) (decode-says (s .result) (c .before .before .before .before .args .region .now)))
 
 pub oven-timer-accumulating-refusal-spec : {M : Type 1} → statement M
 oven-timer-accumulating-refusal-spec = tie.close (tie.spec (λ c κs. search needs) (λ c κs. search needs) (λ c κs. search needs) returns)

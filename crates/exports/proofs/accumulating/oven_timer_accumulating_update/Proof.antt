@@ -6,8 +6,8 @@ use Rattle.exports.proofs.accumulating.oven_timer_accumulating_update.T
 
 returns : tie.Need-returns
 returns c =
-    let r = c .before .before .before .before .before in
-    rw (← r .before .real-of .ensures, ← r .real-of2 .ensures) (in-words (c .before .before .before .update .ensures) (c .answer-words .ensures))
+    let i = c .before .before .before .before .before in
+    rw (← i .before .before .settings .ensures, ← i .before .real-of .ensures, ← i .two-inputs .ensures) (in-words (c .before .before .before .update .ensures) (c .answer-words .ensures))
 
 pub oven-timer-accumulating-update-spec : {M : Type 1} → statement M
-oven-timer-accumulating-update-spec = tie.close (tie.spec (λ c κs. search needs) (λ c κs. search needs) (λ c κs. search needs) (λ c κs. search needs) (λ c. search needs) returns)
+oven-timer-accumulating-update-spec = tie.close (tie.spec (λ c κs. search needs) (λ c κs. search needs) (λ c κs. search needs) (λ c κs. search needs) (λ c κs. search needs) (λ c. search needs) returns)

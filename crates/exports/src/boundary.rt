@@ -1,10 +1,11 @@
-// Answers as they cross to C and Rust: in words, since compiled code may give a NaN any bits.
+// What crosses to C and Rust: words alone, since compiled code may give a NaN any bits.
 use dynamics::Answer;
+use dynamics::Inputs;
 use dynamics::Length;
 use reals::word_of;
 use reals::word_of_flag;
 ghost use mathlib.Core.Path.{_≡_};
-ghost use Rattle.exports.specs.Boundary.{answerWords, lengthWords};
+ghost use Rattle.exports.specs.Boundary.{answerWords, lengthWords, oneInput, twoInputs};
 
 // The refusal number, the real's bits, and the two booleans as 0 or 1.
 #[repr(C)]
@@ -13,6 +14,13 @@ pub struct AnswerWords {
     pub real: u64,
     pub boolean: u64,
     pub warning: u64,
+}
+
+// The refusal number and the state length.
+#[repr(C)]
+pub struct LengthWords {
+    pub refusal: u64,
+    pub length: u64,
 }
 
 // An answer in words.
@@ -27,13 +35,6 @@ pub fn answer_words(a: Answer) -> AnswerWords
     }
 }
 
-// A refusal number and a state length.
-#[repr(C)]
-pub struct LengthWords {
-    pub refusal: u64,
-    pub length: u64,
-}
-
 // A length in words.
 pub fn length_words(l: Length) -> LengthWords
     ensures { λ r. ⌜ r ≡ lengthWords l ⌝ }
@@ -41,5 +42,27 @@ pub fn length_words(l: Length) -> LengthWords
     LengthWords {
         refusal: l.refusal,
         length: l.length as u64,
+    }
+}
+
+// What a tick brings to a block with one input.
+pub fn one_input(first: u64) -> Inputs
+    ensures { λ r. ⌜ r ≡ oneInput first ⌝ }
+{
+    Inputs {
+        first,
+        second: 0,
+        third: 0,
+    }
+}
+
+// What a tick brings to a block with two inputs.
+pub fn two_inputs(first: u64, second: u64) -> Inputs
+    ensures { λ r. ⌜ r ≡ twoInputs first second ⌝ }
+{
+    Inputs {
+        first,
+        second,
+        third: 0,
     }
 }

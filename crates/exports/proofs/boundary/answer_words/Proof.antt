@@ -1,8 +1,8 @@
--- `answer::answer_words` is the answer in words. Assumes nothing.
+-- `boundary::answer_words` is the answer in words. Assumes nothing.
 use borrow.Author.Needs.{needs}
 use Rattle.exports.specs.Boundary.{answerWords}
-use Rattle.exports.proofs.answer.answer_words.Statement.{statement}
-use Rattle.exports.proofs.answer.answer_words.Tie as tie
+use Rattle.exports.proofs.boundary.answer_words.Statement.{statement}
+use Rattle.exports.proofs.boundary.answer_words.Tie as tie
 
 returns : tie.Need-returns
 unfolding answerWords

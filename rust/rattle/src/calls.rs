@@ -4,7 +4,7 @@ use comparison::{Calls, Kind};
 use crate::timers::{Timer, timer};
 
 /// The blocks that are proved.
-pub const BLOCKS: [Kind; 1] = [Kind::TimerAccumulating];
+pub const BLOCKS: [Kind; 2] = [Kind::TimerAccumulating, Kind::TrueDelay];
 
 /// The proved calls, to be compared with the Rust.
 pub const CALLS: Calls = Calls {

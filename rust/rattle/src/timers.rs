@@ -82,17 +82,24 @@ const TIMER_ACCUMULATING: Timer = timer!(
     t
 );
 
+const TRUE_DELAY: Timer = timer!(
+    oven_true_delay_length oven_true_delay_start oven_true_delay_refusal
+    oven_true_delay_emit oven_true_delay_update oven_true_delay_tick,
+    delay_time delay_on_init
+);
+
 /// The timer of this kind, if there is one.
 #[must_use]
 pub fn timer(kind: Kind) -> Option<&'static Timer> {
     match kind {
         Kind::TimerAccumulating => Some(&TIMER_ACCUMULATING),
+        Kind::TrueDelay => Some(&TRUE_DELAY),
         _ => None,
     }
 }
 
-/// A tick's words: the settings, the time, the inputs.
 impl Timer {
+    /// A tick's words: the settings, the time, the inputs.
     #[must_use]
     pub fn words(settings: &[u64], time: u64, inputs: &[u64]) -> [u64; 4] {
         match *settings {

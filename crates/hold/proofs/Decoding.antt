@@ -47,7 +47,7 @@ abbrev pub opens : {X : Type 0} → (X → Bool) → (X → State → Float → 
 opens accepts advance = record { enum = decoded; block = λ b. holdOf (accepts b) (advance b); counted = λ b s. counted s }
 
 module _ (accepts : Bool) (advance : State → Float → Inputs → State) where
-  abbrev pub machine : Machine
+  abbrev machine : Machine
   machine = machineOf (holdOf accepts advance)
 
   -- what decoding answers, in document 01's number and values

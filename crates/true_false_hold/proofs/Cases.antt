@@ -5,9 +5,8 @@ use lib.Ieee.{Float, binary64, add, le}
 use Rattle.reals.specs.Words.{0·0}
 use Rattle.dynamics.specs.Previous.{gap, isFirst}
 use Rattle.dynamics.specs.Leaves.{positiveDuration}
-use Rattle.dynamics.specs.declared.leaf.Timed.{Timed}
 use Rattle.hold.specs.declared.State.{State}
-use Rattle.true_false_hold.specs.TrueFalseHold.{required, lasted, flips, outputAndTimer}
+use Rattle.true_false_hold.specs.TrueFalseHold.{required, flips, outputAndTimer}
 use Rattle.true_false_hold.specs.declared.TrueFalseHold.{TrueFalseHold}
 
 module _ (b : TrueFalseHold) (held : Bool) {x : Float} where

@@ -1,0 +1,60 @@
+-- A hold as the laws of blocks with a state record take it. Assumes nothing.
+use mathlib.Core.Path.{_≡_, refl}
+use mathlib.Core.Bool.{Bool, true}
+use mathlib.Core.List.{List}
+use Prim.Native.Nat.{ℕ}
+use native.Mathlib.Omega.{arith}
+use lib.ListN.{length, getD}
+use lib.Ieee.{Float}
+use Rattle.dynamics.specs.Previous.{previousOf}
+use Rattle.dynamics.specs.Machine.{Machine, startRefusal, startedWords, decodeRefusal, decodeAnswer, isSound}
+use Rattle.dynamics.specs.Stepped.{machineOf}
+use Rattle.dynamics.specs.declared.call.Inputs.{Inputs}
+use Rattle.dynamics.proofs.Calls.{start-sound}
+use Rattle.dynamics.proofs.Steps.{Enum, Opens, decode-reads}
+use Rattle.hold.specs.Hold.{stateOf, wordsOf, holdOf, opened, zeros, reads}
+use Rattle.hold.specs.declared.State.{State}
+use Rattle.hold.specs.declared.Decoded.{Decoded}
+use Rattle.hold.specs.declared.Decoded.the-variants.{Refused}
+use Rattle.hold.specs.declared.Decoded.the-variants as variant
+
+pub apart : (s : State) (n : ℕ) → variant.State s ≡ Refused n → ⊥
+apart s n e = let z : _≡_ {A = ℕ} 0 1 = cc in omega arith
+
+abbrev pub decoded : Enum State Decoded
+decoded = record {
+  state = variant.State;
+  refused = Refused;
+  zeros = zeros;
+  reads = reads;
+  reads-state = λ s. refl;
+  reads-refused = λ n. refl;
+  apart = apart;
+}
+
+-- a state has three words
+pub counted : (s : State) → length (wordsOf s) ≡ 3
+unfolding wordsOf
+counted s = refl
+
+-- the previous time is the third
+pub placed : (w : List ℕ) → stateOf w .previous ≡ previousOf (getD w 2 0)
+unfolding stateOf
+placed w = refl
+
+-- holds with settings X
+abbrev pub opens : {X : Type 0} → (X → Bool) → (X → State → Float → Inputs → State) → Opens X State Decoded
+opens accepts advance = record { enum = decoded; block = λ b. holdOf (accepts b) (advance b); counted = λ b s. counted s }
+
+module _ (accepts : Bool) (advance : State → Float → Inputs → State) where
+  abbrev machine : Machine
+  machine = machineOf (holdOf accepts advance)
+
+  -- what decoding answers, in document 01's number and values
+  pub decode-says : (w : List ℕ) → reads (opened (decodeRefusal machine w) w) ≡ decodeAnswer machine stateOf zeros w
+  decode-says w = decode-reads decoded machine stateOf w
+
+  -- a fresh start is sound
+  pub fresh-sound : (w : List ℕ) → startRefusal machine w ≡ 0 → isSound machine (startedWords machine w) ≡ true
+  unfolding machineOf wordsOf stateOf previousOf
+  fresh-sound w z = start-sound machine w refl refl z

@@ -1,0 +1,79 @@
+// The state that both holds have, and its three words in a region.
+use dynamics::Previous;
+use dynamics::flag_at;
+use dynamics::previous_at;
+use dynamics::real_at;
+use dynamics::store;
+use dynamics::word_of_previous;
+use reals::word_of;
+use reals::word_of_flag;
+ghost use mathlib.Core.Path.{_≡_};
+ghost use Rattle.dynamics.specs.Region.{stored};
+ghost use Rattle.hold.specs.Hold.{initial, stateOf, wordsOf, reads};
+
+// Which word is which.
+const HELD_WORD: usize = 0;
+
+const TIMER_WORD: usize = 1;
+
+pub const PREV_T_WORD: usize = 2;
+
+pub const STATE_LEN: usize = 3;
+
+// The output and the stored timer, and the time of the previous tick.
+pub struct State {
+    pub held: bool,
+    pub timer: f64,
+    pub previous: Previous,
+}
+
+// A region taken apart: its state, or why it has none.
+pub enum Decoded {
+    State(State),
+    Refused(u64),
+}
+
+// The refusal number; 0 for a state.
+pub fn number_of(d: Decoded) -> u64
+    ensures { λ r. ⌜ r ≡ reads d .refusal ⌝ }
+{
+    match d {
+        Decoded::State(_) => 0,
+        Decoded::Refused(n) => n,
+    }
+}
+
+// The state of a fresh hold.
+pub fn init_state() -> State
+    ensures { λ r. ⌜ r ≡ initial ⌝ }
+{
+    State {
+        held: false,
+        timer: 0.0,
+        previous: Previous::Unset,
+    }
+}
+
+// What a region's words mean.
+pub fn state_of(region: &[u64]) -> State
+    ensures { λ r. ⌜ r ≡ stateOf (now (region .entry)) ⌝ }
+{
+    State {
+        held: flag_at(region, HELD_WORD),
+        timer: real_at(region, TIMER_WORD),
+        previous: previous_at(region, PREV_T_WORD),
+    }
+}
+
+// Stores a state in a region of its length.
+pub fn write(region: &mut [u64], s: State)
+    ensures { λ _. ⌜ now (region .exit) ≡ stored (now (region .entry)) (wordsOf s) ⌝ }
+{
+    let previous = s.previous;
+    let words = [
+        word_of_flag(s.held),
+        word_of(s.timer),
+        word_of_previous(previous),
+    ];
+    store(region, &words);
+}

@@ -1,0 +1,6 @@
+pub mod Cases
+pub mod Decoding
+pub mod Durations
+pub mod Wiping
+pub mod TwoRegions
+pub mod OneResult

@@ -1,0 +1,150 @@
+-- Demand 3 for `TrueHoldWithReset`: its steps keep its account. Assumes nothing.
+use mathlib.Core.Path.{_≡_, refl, sym, ap}
+use mathlib.Core.Bool.{Bool, true, false, _&&_, _||_, cond}
+use mathlib.Core.List.{List}
+use Prim.Native.Nat.{ℕ}
+use lib.Dec.{T}
+use lib.Ieee.{Float, binary64, fits, add, lt, le}
+use lib.Ieee.Fits.{add-fits}
+use Rattle.reals.specs.Words.{0·0}
+use Rattle.reals.proofs.Words.{flag-back, real-word}
+use Rattle.dynamics.specs.Previous.{soundPrevious, gap, isFirst}
+use Rattle.dynamics.specs.Leaves.{positiveDuration}
+use Rattle.dynamics.specs.Machine.{Tick, Call, updates, wordsAfter, run}
+use Rattle.dynamics.specs.Stepped.{machineOf}
+use Rattle.dynamics.specs.History.{History, started, wiped, followed, previousIn, refusedAfter, grown, retold, Wiping}
+use Rattle.dynamics.specs.declared.leaf.Timed.{Timed}
+use Rattle.dynamics.specs.declared.previous.Previous.the-variants.{Unset, At}
+use Rattle.dynamics.proofs.Gaps.{zero-nonneg, zero-f64, either, sum-nonneg}
+use Rattle.dynamics.proofs.Histories.{Kept, newest-grown, time-back, grown-sound, from-wiping, from-start, alike}
+use Rattle.hold.specs.Hold.{stateOf, wordsOf, outputs}
+use Rattle.true_hold_with_reset.specs.TrueHoldWithReset.{machine, settingsAccepted, runTime, holds, outputAndTimer, next, advance}
+use Rattle.true_hold_with_reset.specs.Account.{Run, inputOf, clearOf, wipes, onward, hold, stateAfter, account}
+use Rattle.true_hold_with_reset.specs.declared.TrueHoldWithReset.{TrueHoldWithReset}
+use Rattle.true_hold_with_reset.proofs.Durations.{below-positive}
+
+abbrev off : Timed
+off = record { y = false; timer = 0·0 }
+
+-- what is stored of a hold: its sum while it is true
+abbrev stored : Run → Timed
+stored r = record { y = r .on; timer = cond (r .on) (r .sum) 0·0 }
+
+-- the sum with a gap on top, if the hold was true
+abbrev summed : Bool → Float → Float → Float
+summed was x since = cond was (add binary64 x since) 0·0
+
+module _ (b : TrueHoldWithReset) where
+  -- the stored timer serves as the sum, since it is read only while the hold is true: x is the sum before the tick, p the positive duration
+  run-next : (was input : Bool) (x since p : Float) → lt (summed was x since) p ≡ lt (summed was x since) (b .duration)
+      → cond (input || (was && lt (summed was (cond was x 0·0) since) p)) (record { y = true; timer = summed was (cond was x 0·0) since }) off ≡ stored (onward b (record { on = was; sum = x }) since input)
+  unfolding onward
+  run-next true true x since p e = refl
+  run-next false true x since p e = refl
+  run-next true false x since p e = rw e (go (lt (add binary64 x since) (b .duration)))
+    where
+      go : (t : Bool) → cond t (record { y = true; timer = add binary64 x since }) off ≡ record { y = t; timer = cond t (add binary64 x since) 0·0 }
+      go true = refl
+      go false = refl
+  run-next false false x since p e = refl
+
+  -- the first tick after a start follows the same rule, since no hold is true before it
+  first-next : (h : History) (input : Bool) (since : Float) {t : Timed} → t ≡ stored (onward b (hold b h) since input)
+      → cond (isFirst (previousIn h)) (record { y = input; timer = 0·0 }) t ≡ stored (onward b (hold b h) since input)
+  unfolding hold onward
+  first-next started true since e = refl
+  first-next started false since e = refl
+  first-next (wiped k) input since e = e
+  first-next (followed h k) input since e = e
+
+  sum-f64 : (h : History) → T (fits binary64 (hold b h .sum))
+  unfolding hold onward
+  sum-f64 started = zero-f64
+  sum-f64 (wiped k) = zero-f64
+  sum-f64 (followed h k) = either (λ x. T (fits binary64 x)) (hold b h .on) (add-fits binary64 (hold b h .sum) (gap (k .time) (previousIn h))) zero-f64
+
+  -- what is known of a history: its newest tick was accepted, and its sum is not negative
+  pub record Good (h : History) : Type 0 where
+    pub now : soundPrevious (previousIn h) ≡ true
+    pub nonneg : T (le 0·0 (hold b h .sum))
+
+  held : (h : History) → stateOf (wordsOf (stateAfter b h)) ≡ stateAfter b h
+  unfolding stateOf wordsOf stateAfter
+  held h =
+      simp (real-word (cond (hold b h .on) (hold b h .sum) 0·0) (either (λ x. T (fits binary64 x)) (hold b h .on) (sum-f64 h) zero-f64), time-back h, flag-back)
+
+  module _ (k : Tick) (h : History) (g : Good h) (ok : refusedAfter k h ≡ 0) where
+    nonneg-next : T (le 0·0 (hold b (followed h k) .sum))
+    unfolding hold onward
+    nonneg-next = either (λ x. T (le 0·0 x)) (hold b h .on) (sum-nonneg k h (g .now) ok (hold b h .sum) (g .nonneg)) zero-nonneg
+
+    good-next : Good (grown wipes h k)
+    good-next = record { now = grown-sound wipes k h ok; nonneg = go (clearOf k) }
+      where
+        go : (w : Bool) → T (le 0·0 (hold b (cond w (wiped k) (followed h k)) .sum))
+        go true = unfold hold in zero-nonneg
+        go false = nonneg-next
+
+    -- what the tick gives if it does not clear, and in either case
+    uncleared : cond (isFirst (previousIn h)) (record { y = inputOf k; timer = 0·0 })
+        (cond (holds b (stateAfter b h) (runTime (stateAfter b h) (k .time)) (inputOf k)) (record { y = true; timer = runTime (stateAfter b h) (k .time) }) off)
+        ≡ stored (hold b (followed h k))
+    unfolding holds runTime stateAfter hold
+    uncleared =
+        let since = gap (k .time) (previousIn h) in
+        first-next h (inputOf k) since
+        (run-next (hold b h .on) (inputOf k) (hold b h .sum) since (positiveDuration (b .duration))
+        (below-positive (summed (hold b h .on) (hold b h .sum) since) (unfold onward in nonneg-next) (b .duration)))
+
+    timed-next : outputAndTimer b (stateAfter b h) (k .time) (inputOf k) (clearOf k) ≡ stored (hold b (grown wipes h k))
+    unfolding outputAndTimer stateAfter
+    timed-next = go (clearOf k) uncleared
+      where
+        go : (w : Bool) {t : Timed} → t ≡ stored (hold b (followed h k)) → cond w off t ≡ stored (hold b (cond w (wiped k) (followed h k)))
+        go true e = unfold hold in refl
+        go false e = e
+
+    -- the block's next state is the history's
+    state-next : advance b (stateOf (wordsOf (stateAfter b h))) (k .time) (k .inputs) ≡ stateAfter b (grown wipes h k)
+    unfolding advance next stateAfter
+    state-next = rw (held h) (λ i. record {
+      held = timed-next i .y;
+      timer = timed-next i .timer;
+      previous = sym (newest-grown Unset (λ (j : Tick). At (j .time)) wipes k h) i;
+    })
+
+  -- a wiping tick leaves the state of the history that is this tick alone
+  wiped-state : (k : Tick) (w : List ℕ) → clearOf k ≡ true → advance b (stateOf w) (k .time) (k .inputs) ≡ stateAfter b (wiped k)
+  unfolding advance next outputAndTimer stateAfter hold
+  wiped-state k w c = simp c
+
+  pub kept : Kept (machine b) (account b) Good
+  unfolding machineOf wordsOf stateAfter
+  kept = record {
+    quiet = λ w time i. refl;
+    counted = λ h. refl;
+    decodes = λ h g. unfold stateOf in rw (time-back h) (g .now);
+    previous = λ h g. unfold stateOf in time-back h;
+    fresh = unfold hold in refl;
+    good-fresh = record { now = refl; nonneg = unfold hold in zero-nonneg };
+    wiped-words = λ k w p. ap wordsOf (wiped-state k w (p .wiping));
+    good-wiped = λ k f. record { now = f; nonneg = unfold hold in zero-nonneg };
+    output = λ k h g ok. ap outputs (state-next k h g ok);
+    after = λ k h g ok. ap wordsOf (state-next k h g ok);
+    good = good-next;
+  }
+
+  -- after a wiping tick, whatever the region held before, each further call answers and leaves what the history from that tick on says
+  pub told : (w : List ℕ) (k : Tick) → Wiping (account b) (machine b) w k → (cs : List Call)
+      → run (machine b) (wordsAfter (machine b) w (updates k)) cs ≡ retold (account b) (wiped k) cs
+  told = from-wiping (machine b) (account b) Good kept
+
+  -- so any two regions that it meets are alike from then on
+  pub wiped-alike : (v w : List ℕ) (k : Tick) → Wiping (account b) (machine b) v k → Wiping (account b) (machine b) w k → (cs : List Call)
+      → run (machine b) (wordsAfter (machine b) v (updates k)) cs ≡ run (machine b) (wordsAfter (machine b) w (updates k)) cs
+  wiped-alike = alike (machine b) (account b) Good kept
+
+  -- and from a start on, which ends the history
+  pub told-from-start : settingsAccepted b ≡ true → (cs : List Call) → run (machine b) (machine b .fresh) cs ≡ retold (account b) started cs
+  unfolding machineOf
+  told-from-start f = from-start (machine b) (account b) Good kept f

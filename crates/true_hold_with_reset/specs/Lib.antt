@@ -1,0 +1,2 @@
+pub mod TrueHoldWithReset
+pub mod Account

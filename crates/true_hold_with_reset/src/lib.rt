@@ -1,0 +1,120 @@
+// `TrueHoldWithReset` of CDL.Logical: the output follows the input, but a true one lasts for a least time, unless cleared.
+mod step;
+
+use dynamics::Answer;
+use dynamics::Inputs;
+use dynamics::boolean_answer;
+use dynamics::decode_refusal;
+use dynamics::form_refusal;
+use dynamics::silent;
+use dynamics::tick_refusal;
+pub use hold::Decoded;
+use hold::PREV_T_WORD;
+use hold::STATE_LEN;
+pub use hold::State;
+use hold::init_state;
+pub use hold::number_of;
+use hold::state_of;
+use hold::write;
+use reals::is_finite;
+use step::step;
+ghost use mathlib.Core.Path.{_≡_};
+ghost use Rattle.dynamics.specs.Region.{Gives};
+ghost use Rattle.dynamics.specs.Machine.{startRefusal, decodeRefusal, tickRefusal, startedWords, isSound, emitAnswer, updateAnswer, updatedWords, tickAnswer};
+ghost use Rattle.hold.specs.Hold.{opened};
+ghost use Rattle.true_hold_with_reset.specs.TrueHoldWithReset.{settingsAccepted, machine};
+
+// A true output lasts for the duration.
+pub struct TrueHoldWithReset {
+    pub duration: f64,
+}
+
+fn settings_accepted(settings: TrueHoldWithReset) -> bool
+    ensures { λ r. ⌜ r ≡ settingsAccepted settings ⌝ }
+{
+    is_finite(settings.duration)
+}
+
+// Writes the words of a fresh hold. The refusal number; 0 is accepted.
+pub fn start(settings: TrueHoldWithReset, region: &mut [u64]) -> u64
+    ensures { λ r. ⌜ Gives (startRefusal (machine settings) (now (region .entry))) (startedWords (machine settings) (now (region .entry))) r (now (region .exit)) ⌝ }
+{
+    let n = form_refusal(settings_accepted(settings), region.len() == STATE_LEN);
+    if n != 0 {
+        return n;
+    }
+    write(region, init_state());
+    0
+}
+
+// Whether a region decodes.
+pub fn sound(settings: TrueHoldWithReset, region: &[u64]) -> bool
+    ensures { λ r. ⌜ r ≡ isSound (machine settings) (now (region .entry)) ⌝ }
+{
+    decode_refusal(settings_accepted(settings), STATE_LEN, PREV_T_WORD, region) == 0
+}
+
+// A region taken apart.
+pub fn decode(settings: TrueHoldWithReset, region: &[u64]) -> Decoded
+    ensures { λ r. ⌜ r ≡ opened (decodeRefusal (machine settings) (now (region .entry))) (now (region .entry)) ⌝ }
+{
+    let n = decode_refusal(settings_accepted(settings), STATE_LEN, PREV_T_WORD, region);
+    if n != 0 {
+        return Decoded::Refused(n);
+    }
+    Decoded::State(state_of(region))
+}
+
+// The same, for a tick at this time.
+fn admit(settings: TrueHoldWithReset, time: f64, region: &[u64]) -> Decoded
+    ensures { λ r. ⌜ r ≡ opened (tickRefusal (machine settings) time (now (region .entry))) (now (region .entry)) ⌝ }
+{
+    let n = tick_refusal(
+        settings_accepted(settings),
+        STATE_LEN,
+        PREV_T_WORD,
+        time,
+        region,
+    );
+    if n != 0 {
+        return Decoded::Refused(n);
+    }
+    Decoded::State(state_of(region))
+}
+
+// The output as of this tick; nothing is stored.
+pub fn emit(settings: TrueHoldWithReset, time: f64, inputs: Inputs, region: &[u64]) -> Answer
+    ensures { λ r. ⌜ r ≡ emitAnswer (machine settings) time inputs (now (region .entry)) ⌝ }
+{
+    let met = admit(settings, time, region);
+    let Decoded::State(s) = met else {
+        return silent(number_of(met));
+    };
+    let after = step(settings, s, time, inputs);
+    boolean_answer(after.held)
+}
+
+// Stores this tick.
+pub fn update(settings: TrueHoldWithReset, time: f64, inputs: Inputs, region: &mut [u64]) -> Answer
+    ensures { λ r. ⌜ Gives (updateAnswer (machine settings) time inputs (now (region .entry))) (updatedWords (machine settings) time inputs (now (region .entry))) r (now (region .exit)) ⌝ }
+{
+    let met = admit(settings, time, region);
+    let Decoded::State(s) = met else {
+        return silent(number_of(met));
+    };
+    write(region, step(settings, s, time, inputs));
+    silent(0)
+}
+
+// A whole tick, an emit and then an update, with every test made once.
+pub fn tick(settings: TrueHoldWithReset, time: f64, inputs: Inputs, region: &mut [u64]) -> Answer
+    ensures { λ r. ⌜ Gives (tickAnswer (machine settings) time inputs (now (region .entry))) (updatedWords (machine settings) time inputs (now (region .entry))) r (now (region .exit)) ⌝ }
+{
+    let met = admit(settings, time, region);
+    let Decoded::State(s) = met else {
+        return silent(number_of(met));
+    };
+    let after = step(settings, s, time, inputs);
+    write(region, after);
+    boolean_answer(after.held)
+}

@@ -3,9 +3,11 @@ mod step;
 
 use dynamics::Answer;
 use dynamics::Inputs;
+use dynamics::Length;
 use dynamics::boolean_answer;
 use dynamics::decode_refusal;
 use dynamics::form_refusal;
+use dynamics::length_answer;
 use dynamics::silent;
 use dynamics::tick_refusal;
 pub use hold::Decoded;
@@ -20,7 +22,7 @@ use reals::is_finite;
 use step::step;
 ghost use mathlib.Core.Path.{_≡_};
 ghost use Rattle.dynamics.specs.Region.{Gives};
-ghost use Rattle.dynamics.specs.Machine.{startRefusal, decodeRefusal, tickRefusal, startedWords, isSound, emitAnswer, updateAnswer, updatedWords, tickAnswer};
+ghost use Rattle.dynamics.specs.Machine.{lengthAnswer, startRefusal, decodeRefusal, tickRefusal, startedWords, isSound, emitAnswer, updateAnswer, updatedWords, tickAnswer};
 ghost use Rattle.hold.specs.Hold.{opened};
 ghost use Rattle.true_false_hold.specs.TrueFalseHold.{settingsAccepted, machine};
 
@@ -34,6 +36,13 @@ fn settings_accepted(settings: TrueFalseHold) -> bool
     ensures { λ r. ⌜ r ≡ settingsAccepted settings ⌝ }
 {
     is_finite(settings.true_hold_duration) & is_finite(settings.false_hold_duration)
+}
+
+// How many words its region has.
+pub fn state_length(settings: TrueFalseHold) -> Length
+    ensures { λ r. ⌜ r ≡ lengthAnswer (machine settings) ⌝ }
+{
+    length_answer(settings_accepted(settings), STATE_LEN)
 }
 
 // Writes the words of a fresh hold. The refusal number; 0 is accepted.

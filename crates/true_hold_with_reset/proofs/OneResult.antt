@@ -8,8 +8,11 @@ use denote.Ref.{now}
 use denote.Triple.Clauses.{AtExit}
 use borrow.Fn.Kinds.{Dens, endedOf}
 use Rattle.dynamics.specs.declared.call.Answer.{Answer}
+use Rattle.dynamics.specs.declared.call.Length.{Length}
 use Rattle.dynamics.proofs.Calls.{one-result}
 use Rattle.hold.specs.declared.Decoded.{Decoded}
+use Rattle.true_hold_with_reset.proofs.state_length.Kinds as length'
+use Rattle.true_hold_with_reset.proofs.state_length.Reads as length
 use Rattle.true_hold_with_reset.proofs.start.Kinds as start'
 use Rattle.true_hold_with_reset.proofs.start.Reads as start
 use Rattle.true_hold_with_reset.proofs.sound.Kinds as sound'
@@ -24,6 +27,10 @@ use Rattle.true_hold_with_reset.proofs.tick.Kinds as tick'
 use Rattle.true_hold_with_reset.proofs.tick.Reads as tick
 
 -- a call that only reads
+pub length-once : (κs : Lfts 0) (a : Dens κs length'.ps) (x y : Length) (s t : AtExit (endedOf 0 length'.ps length'.r) κs)
+    → length.Post κs a x s → length.Post κs a y t → x ≡ y
+length-once κs a x y s t p q = p ∙ sym q
+
 pub sound-once : (κs : Lfts 1) (a : Dens κs sound'.ps) (x y : Bool) (s t : AtExit (endedOf 1 sound'.ps sound'.r) κs)
     → sound.Post κs a x s → sound.Post κs a y t → x ≡ y
 sound-once κs a x y s t p q = p ∙ sym q

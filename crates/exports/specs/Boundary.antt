@@ -6,6 +6,8 @@ use Rattle.dynamics.specs.declared.call.Inputs.{Inputs}
 use Rattle.dynamics.specs.declared.call.Length.{Length}
 use Rattle.timer_accumulating.specs.declared.TimerAccumulating.{TimerAccumulating}
 use Rattle.true_delay.specs.declared.TrueDelay.{TrueDelay}
+use Rattle.true_false_hold.specs.declared.TrueFalseHold.{TrueFalseHold}
+use Rattle.true_hold_with_reset.specs.declared.TrueHoldWithReset.{TrueHoldWithReset}
 use Rattle.exports.specs.declared.boundary.AnswerWords.{AnswerWords}
 use Rattle.exports.specs.declared.boundary.LengthWords.{LengthWords}
 
@@ -29,3 +31,9 @@ timerAccumulating x = record { t = realOf x }
 
 unfoldable pub trueDelay : ℕ → ℕ → TrueDelay
 trueDelay x y = record { «delay_time» = realOf x; «delay_on_init» = flagOf y }
+
+unfoldable pub trueFalseHold : ℕ → ℕ → TrueFalseHold
+trueFalseHold x y = record { «true_hold_duration» = realOf x; «false_hold_duration» = realOf y }
+
+unfoldable pub trueHoldWithReset : ℕ → TrueHoldWithReset
+trueHoldWithReset x = record { duration = realOf x }

@@ -2,4 +2,6 @@
 pub mod accumulating;
 pub mod boundary;
 pub mod delay;
+pub mod false_hold;
 pub mod leaves;
+pub mod reset_hold;

@@ -50,11 +50,9 @@ fn session(r: &mut Rng, kind: Kind) -> String {
             text += &damaged(r, &line);
         } else {
             text += &line;
-            previous = if t.is_finite() {
-                t.max(previous)
-            } else {
-                previous
-            };
+            if t.is_finite() && t >= previous {
+                previous = t;
+            }
         }
         text.push('\n');
     }

@@ -4,7 +4,12 @@ use comparison::{Calls, Kind};
 use crate::timers::{Timer, timer};
 
 /// The blocks that are proved.
-pub const BLOCKS: [Kind; 2] = [Kind::TimerAccumulating, Kind::TrueDelay];
+pub const BLOCKS: [Kind; 4] = [
+    Kind::TimerAccumulating,
+    Kind::TrueDelay,
+    Kind::TrueFalseHold,
+    Kind::TrueHoldWithReset,
+];
 
 /// The proved calls, to be compared with the Rust.
 pub const CALLS: Calls = Calls {

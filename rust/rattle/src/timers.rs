@@ -88,12 +88,26 @@ const TRUE_DELAY: Timer = timer!(
     delay_time delay_on_init
 );
 
+const TRUE_FALSE_HOLD: Timer = timer!(
+    oven_true_false_hold_length oven_true_false_hold_start oven_true_false_hold_refusal
+    oven_true_false_hold_emit oven_true_false_hold_update oven_true_false_hold_tick,
+    true_hold_duration false_hold_duration
+);
+
+const TRUE_HOLD_WITH_RESET: Timer = timer!(
+    oven_true_hold_with_reset_length oven_true_hold_with_reset_start oven_true_hold_with_reset_refusal
+    oven_true_hold_with_reset_emit oven_true_hold_with_reset_update oven_true_hold_with_reset_tick,
+    duration
+);
+
 /// The timer of this kind, if there is one.
 #[must_use]
 pub fn timer(kind: Kind) -> Option<&'static Timer> {
     match kind {
         Kind::TimerAccumulating => Some(&TIMER_ACCUMULATING),
         Kind::TrueDelay => Some(&TRUE_DELAY),
+        Kind::TrueFalseHold => Some(&TRUE_FALSE_HOLD),
+        Kind::TrueHoldWithReset => Some(&TRUE_HOLD_WITH_RESET),
         _ => None,
     }
 }

@@ -1,6 +1,7 @@
 //! Times each block on the same inputs in one run: the ported Rust through `dyn Block`, which tests
 //! nothing, and the proved calls, an emit and an update or one whole tick. Nanoseconds, best of five.
-//! `bench CASE published|calls|tick N` runs N ticks of one case, for a tool that counts instructions.
+//! `bench CASE published|calls|tick|nothing N` runs N ticks of one case, for a tool that counts
+//! instructions: `nothing` is what the driver takes.
 use std::hint::black_box;
 
 use comparison::bench::{Case, Published, Ticking, cases};
@@ -47,10 +48,24 @@ impl Ticking for Proved<'_> {
     }
 }
 
+/// The driver alone.
+struct Nothing;
+
+impl Ticking for Nothing {
+    fn emit(&mut self, time: f64, inputs: &[u64; 3]) {
+        black_box((time, inputs));
+    }
+
+    fn tick(&mut self, time: f64, inputs: &[u64; 3]) {
+        black_box((time, inputs));
+    }
+}
+
 /// Nanoseconds a tick of one side, from a fresh start; none if the block is not proved yet.
 fn run(case: &Case, side: &str, ticks: u64) -> Option<f64> {
     match side {
         "published" => Some(case.nanoseconds(&mut Published::new(case), ticks)),
+        "nothing" => Some(case.nanoseconds(&mut Nothing, ticks)),
         _ => Some(case.nanoseconds(&mut Proved::new(case, side == "tick")?, ticks)),
     }
 }

@@ -1,15 +1,9 @@
 -- Refusal numbers by the first test that fails, and what a call gives by its number. Assumes nothing.
-use mathlib.Core.Path.{_≡_, refl, sym, _∙_}
+use mathlib.Core.Path.{_≡_, refl, sym}
 use mathlib.Core.Bool.{Bool, true, false}
-use mathlib.Core.List.{List}
 use Prim.Native.Nat.{ℕ, zero, suc}
 use native.Mathlib.Omega.{arith}
-use lib.Dec.{eqb}
-use lib.ListN.{length, getD}
-use lib.Ieee.{Float}
-use Rattle.dynamics.specs.Previous.{previousOf, soundPrevious}
-use Rattle.dynamics.specs.Answer.{accept, refusalOf, skipped, formRefusal, timeRefusal, tickTests, decodeTests}
-use Rattle.dynamics.specs.declared.previous.Previous.{Previous}
+use Rattle.dynamics.specs.Answer.{accept, refusalOf, skipped, formRefusal}
 
 -- an accepted call passed every test
 pub all-passed : (shape settings length space time state order : Bool) → refusalOf shape settings length space time state order ≡ 0
@@ -64,28 +58,6 @@ module _ (settings length time state order : Bool) where
   pub form-passes : formRefusal settings length ≡ 0 → refusalOf skipped skipped skipped skipped time state order ≡ refusalOf skipped settings length skipped time state order
   unfolding formRefusal
   form-passes z = let (_, s, l, _, _, _, _) = all-passed skipped settings length skipped skipped skipped skipped z in simp (s, l)
-
--- ---- the tests of a region, made in order: the form, then the previous time is read, then the others
-module _ (settings : Bool) (size place : ℕ) (w : List ℕ) {n : ℕ} (form : n ≡ formRefusal settings (eqb (length w) size)) where
-  pub tick-form : (time : Float) → (n ≡ 0 → ⊥) → n ≡ tickTests settings size place time w
-  unfolding tickTests
-  tick-form time h = form-fails _ _ _ _ _ form h
-
-  pub decode-form : (n ≡ 0 → ⊥) → n ≡ decodeTests settings size place w
-  unfolding decodeTests
-  decode-form h = form-fails _ _ _ _ _ form h
-
-  module _ (z : n ≡ 0) {p : Previous} {b : Bool} (read : p ≡ previousOf (getD w place 0)) (sound : b ≡ soundPrevious p) where
-    passes : (time state order : Bool) → refusalOf skipped skipped skipped skipped time state order ≡ refusalOf skipped settings (eqb (length w) size) skipped time state order
-    passes time state order = form-passes _ _ time state order (sym form ∙ z)
-
-    pub tick-time : (time : Float) {k : ℕ} → k ≡ timeRefusal time b p → k ≡ tickTests settings size place time w
-    unfolding tickTests timeRefusal
-    tick-time time k = k ∙ rw (sound, read) (passes _ _ _)
-
-    pub decode-state : {k : ℕ} → k ≡ refusalOf skipped skipped skipped skipped skipped b skipped → k ≡ decodeTests settings size place w
-    unfolding decodeTests
-    decode-state k = k ∙ rw (sound, read) (passes _ _ _)
 
 -- ---- what a call gives
 module _ {X : Type 0} (x y : X) where

@@ -6,15 +6,15 @@ use Prim.Native.Nat.{ℕ, zero, suc}
 use native.Mathlib.Omega.{arith}
 use lib.Ieee.{Float}
 use lib.Dec.{eqb}
-use lib.ListN.{length, getD}
-use Rattle.dynamics.specs.Previous.{previousOf}
-use Rattle.dynamics.specs.Answer.{silent, emitted, formRefusal, tickTests, decodeTests, accept}
+use lib.ListN.{length}
+use Rattle.dynamics.specs.Previous.{soundPrevious}
+use Rattle.dynamics.specs.Answer.{silent, emitted, refusalOf, skipped, formRefusal, timeRefusal, accept}
 use Rattle.dynamics.specs.Region.{stored, Gives}
 use Rattle.dynamics.specs.Machine.{Machine, startRefusal, startedWords, Reading, decodeRefusal, decodeAnswer, isSound, tickRefusal, emitAnswer, updateAnswer, updatedWords, tickAnswer}
 use Rattle.dynamics.specs.Stepped.{Stepped, machineOf, openedAs}
 use Rattle.dynamics.specs.declared.call.Answer.{Answer}
 use Rattle.dynamics.specs.declared.call.Inputs.{Inputs}
-use Rattle.dynamics.proofs.Accepted.{accepted}
+use Rattle.dynamics.proofs.Accepted.{accepted, refused-6, refused-none, form-fails, form-passes}
 use Rattle.dynamics.proofs.Accepted as by
 use Rattle.dynamics.proofs.Calls.{sound-decodes, start-refused, start-accepted, emit-refused, emit-accepted, update-refused, update-accepted, tick-refused, tick-accepted}
 
@@ -130,46 +130,62 @@ module _ {X S D : Type 0} (O : Opens X S D) (b : X) where
           unfolding machineOf
           tick-then x = tick-accepted M time i w (B .wordsOf s') (O .counted b s') ok (x ∙ ap (λ (q : S). emitted (B .output q time i)) here) next l
 
-  -- ---- opening, and what starts and sound give: a block tells each number by its tests on the region
-  module _ (w : List ℕ) {n : ℕ} where
-    module _ (form : n ≡ startRefusal M w) where
-      pub start-else : (n ≡ 0 → ⊥) → Gives (startRefusal M w) (startedWords M w) n w
-      start-else bad = start-refused M w form bad
+  -- ---- opening, in the order of the table: tests 2 and 3, then the state is read, then the others
+  module _ (w : List ℕ) {a : Bool} (settings : a ≡ B .accepts) {n : ℕ} (formed : n ≡ formRefusal a (eqb (length w) (B .size))) where
+    form : n ≡ startRefusal M w
+    unfolding startRefusal machineOf
+    form = rw settings at formed
 
-      pub start-then : n ≡ 0 → {w' : List ℕ} → w' ≡ stored w (B .wordsOf (B .initial)) → Gives (startRefusal M w) (startedWords M w) 0 w'
+    module _ (bad : n ≡ 0 → ⊥) where
+      pub start-form : Gives (startRefusal M w) (startedWords M w) n w
+      start-form = start-refused M w form bad
+
+      pub decode-form : E .refused n ≡ Opened E (decodeRefusal M w) (B .stateOf w)
+      unfolding decodeRefusal startRefusal machineOf
+      decode-form = open-refused E (decodeRefusal M w) (B .stateOf w) (form-fails _ _ _ _ _ form bad) bad
+
+      pub admit-form : (time : Float) → E .refused n ≡ Opened E (tickRefusal M time w) (B .stateOf w)
+      unfolding tickRefusal startRefusal machineOf
+      admit-form time = open-refused E (tickRefusal M time w) (B .stateOf w) (form-fails _ _ _ _ _ form bad) bad
+
+    module _ (good : n ≡ 0) where
+      fine : startRefusal M w ≡ 0
+      fine = sym form ∙ good
+
+      -- the other tests decide
+      others : (time state order : Bool) → refusalOf skipped skipped skipped skipped time state order ≡ refusalOf skipped (B .accepts) (eqb (length w) (B .size)) skipped time state order
+      unfolding startRefusal machineOf
+      others time state order = form-passes _ _ time state order fine
+
+      pub start-then : {w' : List ℕ} → w' ≡ stored w (B .wordsOf (B .initial)) → Gives (startRefusal M w) (startedWords M w) 0 w'
       unfolding machineOf
-      start-then z l = start-accepted M w (B .wordsOf (B .initial)) (O .counted b (B .initial)) refl (sym z ∙ form) l
+      start-then l = start-accepted M w (B .wordsOf (B .initial)) (O .counted b (B .initial)) refl (sym fine) l
 
-    module _ (tests : n ≡ decodeRefusal M w) where
-      pub decode-else : (n ≡ 0 → ⊥) → E .refused n ≡ Opened E (decodeRefusal M w) (B .stateOf w)
-      decode-else bad = open-refused E (decodeRefusal M w) (B .stateOf w) tests bad
+      module _ {s : S} (e : s ≡ B .stateOf w) {d : Bool} (sound : d ≡ soundPrevious (B .previous s)) where
+        -- what the state tells of the words
+        told : d ≡ soundPrevious (B .previous (B .stateOf w))
+        told = sound ∙ ap (λ (q : S). soundPrevious (B .previous q)) e
 
-      pub decode-then : n ≡ 0 → {s : S} → s ≡ B .stateOf w → E .state s ≡ Opened E (decodeRefusal M w) (B .stateOf w)
-      decode-then z e = open-state E (decodeRefusal M w) (B .stateOf w) (sym z ∙ tests) e
+        pub decode-then : d ≡ true → E .state s ≡ Opened E (decodeRefusal M w) (B .stateOf w)
+        unfolding decodeRefusal machineOf
+        decode-then t = open-state E (decodeRefusal M w) (B .stateOf w) (refused-none _ _ _ _ _ refl refl refl (sym told ∙ t) refl ∙ others _ _ _) e
 
-      -- it is sound exactly if it decodes
-      pub sound-number : eqb n 0 ≡ isSound M w
-      unfolding machineOf
-      sound-number = rw tests (sym (sound-decodes M w refl))
+        pub decode-else : d ≡ false → E .refused 6 ≡ Opened E (decodeRefusal M w) (B .stateOf w)
+        unfolding decodeRefusal machineOf
+        decode-else t = open-refused E (decodeRefusal M w) (B .stateOf w) (refused-6 _ _ _ _ _ refl refl refl (sym told ∙ t) ∙ others _ _ _) (λ z. omega arith)
 
-    module _ (time : Float) (tests : n ≡ tickRefusal M time w) where
-      pub admit-else : (n ≡ 0 → ⊥) → E .refused n ≡ Opened E (tickRefusal M time w) (B .stateOf w)
-      admit-else bad = open-refused E (tickRefusal M time w) (B .stateOf w) tests bad
+        module _ (time : Float) {k : ℕ} (t : k ≡ timeRefusal time d (B .previous s)) where
+          last : k ≡ tickRefusal M time w
+          unfolding tickRefusal timeRefusal machineOf
+          last = t ∙ rw (told, e) (others _ _ _)
 
-      pub admit-then : n ≡ 0 → {s : S} → s ≡ B .stateOf w → E .state s ≡ Opened E (tickRefusal M time w) (B .stateOf w)
-      admit-then z e = open-state E (tickRefusal M time w) (B .stateOf w) (sym z ∙ tests) e
+          pub admit-then : k ≡ 0 → E .state s ≡ Opened E (tickRefusal M time w) (B .stateOf w)
+          admit-then z = open-state E (tickRefusal M time w) (B .stateOf w) (sym z ∙ last) e
 
--- ---- the tests themselves, where the previous time is the word at a place
-module _ {S : Type 0} (B : Stepped S) (w : List ℕ) {a : Bool} (settings : a ≡ B .accepts) {n : ℕ} where
-  pub start-tested : n ≡ formRefusal a (eqb (length w) (B .size)) → n ≡ startRefusal (machineOf B) w
-  unfolding startRefusal machineOf
-  start-tested e = rw settings at e
+          pub admit-else : (k ≡ 0 → ⊥) → E .refused k ≡ Opened E (tickRefusal M time w) (B .stateOf w)
+          admit-else bad = open-refused E (tickRefusal M time w) (B .stateOf w) last bad
 
-  module _ (place : ℕ) (placed : (v : List ℕ) → B .previous (B .stateOf v) ≡ previousOf (getD v place 0)) where
-    pub decode-tested : n ≡ decodeTests a (B .size) place w → n ≡ decodeRefusal (machineOf B) w
-    unfolding decodeRefusal decodeTests machineOf
-    decode-tested e = rw (placed w) (rw settings at e)
-
-    pub tick-tested : (time : Float) → n ≡ tickTests a (B .size) place time w → n ≡ tickRefusal (machineOf B) time w
-    unfolding tickRefusal tickTests machineOf
-    tick-tested time e = rw (placed w) (rw settings at e)
+  -- it is sound exactly if it decodes
+  pub sound-number : (w : List ℕ) {k : ℕ} → k ≡ E .reads (Opened E (decodeRefusal M w) (B .stateOf w)) .refusal → eqb k 0 ≡ isSound M w
+  unfolding machineOf
+  sound-number w e = rw (e ∙ opened-number E (decodeRefusal M w) (B .stateOf w)) (sym (sound-decodes M w refl))

@@ -1,13 +1,10 @@
 -- What a call on one block answers, and the table of refusals. Definitions only.
 use Prim.Native.Nat.{ℕ, zero, suc}
 use mathlib.Core.Bool.{Bool, true, false, not}
-use mathlib.Core.List.{List}
-use lib.Dec.{eqb}
-use lib.ListN.{length, getD}
 use lib.Ieee.{Float}
 use lib.Ieee.Scale.{finite}
 use Rattle.reals.specs.Words.{0·0}
-use Rattle.dynamics.specs.Previous.{previousOf, soundPrevious, runsBack}
+use Rattle.dynamics.specs.Previous.{runsBack}
 use Rattle.dynamics.specs.declared.call.Answer.{Answer}
 use Rattle.dynamics.specs.declared.call.Length.{Length}
 use Rattle.dynamics.specs.declared.previous.Previous.{Previous}
@@ -71,15 +68,6 @@ formRefusal settings length = refusalOf skipped settings length skipped skipped 
 
 unfoldable pub timeRefusal : Float → Bool → Previous → ℕ
 timeRefusal time decodes previous = refusalOf skipped skipped skipped skipped (finite time) decodes (not (runsBack time previous))
-
--- of words with the previous time at a place: tests 2, 3, 5, 6 and 7 of a tick, and tests 2, 3 and 6 of sound and decoding
-unfoldable pub tickTests : (settings : Bool) (size place : ℕ) → Float → List ℕ → ℕ
-tickTests settings size place time w =
-    let previous = previousOf (getD w place 0) in
-    refusalOf skipped settings (eqb (length w) size) skipped (finite time) (soundPrevious previous) (not (runsBack time previous))
-
-unfoldable pub decodeTests : (settings : Bool) (size place : ℕ) → List ℕ → ℕ
-decodeTests settings size place w = refusalOf skipped settings (eqb (length w) size) skipped skipped (soundPrevious (previousOf (getD w place 0))) skipped
 
 -- what a call with this refusal number gives: the first if it is accepted, the second if not
 unfoldable pub accept : {X : Type 0} → ℕ → X → X → X

@@ -4,7 +4,7 @@ use mathlib.Core.Bool.{Bool, true}
 use mathlib.Core.List.{List}
 use Prim.Native.Nat.{ℕ}
 use native.Mathlib.Omega.{arith}
-use lib.ListN.{length, getD}
+use lib.ListN.{length}
 use lib.Ieee.{Float}
 use Rattle.dynamics.specs.Previous.{previousOf}
 use Rattle.dynamics.specs.Machine.{Machine, startRefusal, startedWords, decodeRefusal, decodeAnswer, isSound}
@@ -36,11 +36,6 @@ decoded = record {
 pub counted : (s : State) → length (wordsOf s) ≡ 3
 unfolding wordsOf
 counted s = refl
-
--- the previous time is the third
-pub placed : (w : List ℕ) → stateOf w .previous ≡ previousOf (getD w 2 0)
-unfolding stateOf
-placed w = refl
 
 -- holds with settings X
 abbrev pub opens : {X : Type 0} → (X → Bool) → (X → State → Float → Inputs → State) → Opens X State Decoded

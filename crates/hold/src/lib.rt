@@ -16,7 +16,7 @@ const HELD_WORD: usize = 0;
 
 const TIMER_WORD: usize = 1;
 
-pub const PREV_T_WORD: usize = 2;
+const PREV_T_WORD: usize = 2;
 
 pub const STATE_LEN: usize = 3;
 

@@ -14,7 +14,7 @@ ghost use Rattle.timer_accumulating.specs.TimerAccumulating.{stateOf, wo
 // Which word is which.
 const ACC_WORD: usize = 0;
 
-pub const PREV_T_WORD: usize = 1;
+const PREV_T_WORD: usize = 1;
 
 const PREV_U_WORD: usize = 2;
 

@@ -4,7 +4,7 @@ use mathlib.Core.Bool.{true}
 use mathlib.Core.List.{List}
 use Prim.Native.Nat.{ℕ}
 use native.Mathlib.Omega.{arith}
-use lib.ListN.{length, getD}
+use lib.ListN.{length}
 use Rattle.dynamics.specs.Previous.{previousOf}
 use Rattle.dynamics.specs.Machine.{startRefusal, startedWords, decodeRefusal, decodeAnswer, isSound}
 use Rattle.dynamics.specs.Stepped.{machineOf}
@@ -38,11 +38,6 @@ counted b s = refl
 
 abbrev pub timer : Opens TrueDelay State Decoded
 timer = record { enum = decoded; block = block; counted = counted }
-
--- the previous time is the second
-pub placed : (w : List ℕ) → stateOf w .previous ≡ previousOf (getD w 1 0)
-unfolding stateOf
-placed w = refl
 
 -- what decoding answers, in document 01's number and values
 pub decode-says : (b : TrueDelay) (w : List ℕ) → reads (opened (decodeRefusal (machine b) w) w) ≡ decodeAnswer (machine b) stateOf zeros w

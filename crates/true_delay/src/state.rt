@@ -14,7 +14,7 @@ ghost use Rattle.true_delay.specs.TrueDelay.{stateOf, wordsOf, reads};
 // Which word is which.
 const TIMER_WORD: usize = 0;
 
-pub const PREV_T_WORD: usize = 1;
+const PREV_T_WORD: usize = 1;
 
 const PREV_U_WORD: usize = 2;
 

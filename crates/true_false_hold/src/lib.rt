@@ -5,13 +5,12 @@ use dynamics::Answer;
 use dynamics::Inputs;
 use dynamics::Length;
 use dynamics::boolean_answer;
-use dynamics::decode_refusal;
 use dynamics::form_refusal;
 use dynamics::length_answer;
+use dynamics::previous_sound;
 use dynamics::silent;
-use dynamics::tick_refusal;
+use dynamics::time_refusal;
 pub use hold::Decoded;
-use hold::PREV_T_WORD;
 use hold::STATE_LEN;
 pub use hold::State;
 use hold::init_state;
@@ -57,39 +56,44 @@ pub fn start(settings: TrueFalseHold, region: &mut [u64]) -> u64
     0
 }
 
-// Whether a region decodes.
-pub fn sound(settings: TrueFalseHold, region: &[u64]) -> bool
-    ensures { λ r. ⌜ r ≡ isSound (machine settings) (now (region .entry)) ⌝ }
-{
-    decode_refusal(settings_accepted(settings), STATE_LEN, PREV_T_WORD, region) == 0
-}
-
 // A region taken apart.
 pub fn decode(settings: TrueFalseHold, region: &[u64]) -> Decoded
     ensures { λ r. ⌜ r ≡ opened (decodeRefusal (machine settings) (now (region .entry))) (now (region .entry)) ⌝ }
 {
-    let n = decode_refusal(settings_accepted(settings), STATE_LEN, PREV_T_WORD, region);
+    let n = form_refusal(settings_accepted(settings), region.len() == STATE_LEN);
     if n != 0 {
         return Decoded::Refused(n);
     }
-    Decoded::State(state_of(region))
+    let s = state_of(region);
+    let previous = s.previous;
+    if previous_sound(previous) {
+        return Decoded::State(s);
+    }
+    Decoded::Refused(6)
 }
 
-// The same, for a tick at this time.
+// Whether a region decodes.
+pub fn sound(settings: TrueFalseHold, region: &[u64]) -> bool
+    ensures { λ r. ⌜ r ≡ isSound (machine settings) (now (region .entry)) ⌝ }
+{
+    number_of(decode(settings, region)) == 0
+}
+
+// A region taken apart for a tick at this time: each test once, in the table's order.
 fn admit(settings: TrueFalseHold, time: f64, region: &[u64]) -> Decoded
     ensures { λ r. ⌜ r ≡ opened (tickRefusal (machine settings) time (now (region .entry))) (now (region .entry)) ⌝ }
 {
-    let n = tick_refusal(
-        settings_accepted(settings),
-        STATE_LEN,
-        PREV_T_WORD,
-        time,
-        region,
-    );
+    let n = form_refusal(settings_accepted(settings), region.len() == STATE_LEN);
     if n != 0 {
         return Decoded::Refused(n);
     }
-    Decoded::State(state_of(region))
+    let s = state_of(region);
+    let previous = s.previous;
+    let k = time_refusal(time, previous_sound(previous), previous);
+    if k != 0 {
+        return Decoded::Refused(k);
+    }
+    Decoded::State(s)
 }
 
 // The output as of this tick; nothing is stored.

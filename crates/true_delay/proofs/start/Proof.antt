@@ -3,22 +3,20 @@ use native.Mathlib.Omega.{arith}
 use mathlib.Core.Path.{ap, _∙_}
 use borrow.Author.Needs.{needs}
 use Rattle.dynamics.specs.Region.{stored}
-use Rattle.dynamics.proofs.Steps.{start-else, start-then, start-tested}
-use Rattle.true_delay.specs.TrueDelay.{block, wordsOf}
+use Rattle.dynamics.proofs.Steps.{start-form, start-then}
+use Rattle.true_delay.specs.TrueDelay.{wordsOf}
 use Rattle.true_delay.proofs.Decoding.{timer}
 use Rattle.true_delay.proofs.start.Statement.{statement}
 use Rattle.true_delay.proofs.start.Tie as tie
 
 returns : tie.Need-returns
-returns c =
-    let b = c .before .before .before .before .args .settings in
-    start-else timer b _ (start-tested (block b) _ (c .before .before .settings-accepted .ensures) (c .before .form-refusal .ensures)) (λ z. omega arith)
+returns c = start-form timer (c .before .before .before .before .args .settings) _ (c .before .before .settings-accepted .ensures) (c .before .form-refusal .ensures) (λ z. omega arith)
 
 returns-2 : tie.Need-returns-2
 returns-2 c =
     let f = c .before .before .before .before .before .before in
     let a = f .before .before .before .args in
-    start-then timer (a .settings) _ (start-tested (block (a .settings)) _ (f .before .settings-accepted .ensures) (f .form-refusal .ensures)) (omega arith)
+    start-then timer (a .settings) _ (f .before .settings-accepted .ensures) (f .form-refusal .ensures) (omega arith)
     (c .before .before .write .ensures ∙ ap (λ s. stored (a .region .now) (wordsOf s)) (c .before .before .before .init-state .ensures))
 
 pub start-spec : {M : Type 1} → statement M

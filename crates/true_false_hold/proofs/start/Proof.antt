@@ -3,23 +3,20 @@ use native.Mathlib.Omega.{arith}
 use mathlib.Core.Path.{ap, _∙_}
 use borrow.Author.Needs.{needs}
 use Rattle.dynamics.specs.Region.{stored}
-use Rattle.dynamics.proofs.Steps.{start-else, start-then, start-tested}
+use Rattle.dynamics.proofs.Steps.{start-form, start-then}
 use Rattle.hold.specs.Hold.{wordsOf}
-use Rattle.true_false_hold.specs.TrueFalseHold.{block}
 use Rattle.true_false_hold.proofs.Decoding.{hold}
 use Rattle.true_false_hold.proofs.start.Statement.{statement}
 use Rattle.true_false_hold.proofs.start.Tie as tie
 
 returns : tie.Need-returns
-returns c =
-    let b = c .before .before .before .before .args .settings in
-    start-else hold b _ (start-tested (block b) _ (c .before .before .settings-accepted .ensures) (c .before .form-refusal .ensures)) (λ z. omega arith)
+returns c = start-form hold (c .before .before .before .before .args .settings) _ (c .before .before .settings-accepted .ensures) (c .before .form-refusal .ensures) (λ z. omega arith)
 
 returns-2 : tie.Need-returns-2
 returns-2 c =
     let f = c .before .before .before .before .before .before in
     let a = f .before .before .before .args in
-    start-then hold (a .settings) _ (start-tested (block (a .settings)) _ (f .before .settings-accepted .ensures) (f .form-refusal .ensures)) (omega arith)
+    start-then hold (a .settings) _ (f .before .settings-accepted .ensures) (f .form-refusal .ensures) (omega arith)
     (c .before .before .write .ensures ∙ ap (λ s. stored (a .region .now) (wordsOf s)) (c .before .before .before .init-state .ensures))
 
 pub start-spec : {M : Type 1} → statement M

@@ -2,6 +2,7 @@
 use mathlib.Core.Bool.{Bool, true, false, cond}
 use lib.Ieee.{Float, binary64, add, mul, div, lt}
 use Rattle.reals.specs.Words.{0·0, 1·0}
+use Rattle.dynamics.specs.declared.leaf.Timed.{Timed}
 
 -- x + (rate * gap)
 unfoldable pub accumulated : Float → Float → Float → Float
@@ -25,3 +26,7 @@ raisedTo least x = cond (lt x least) least x
 abbrev pub rising : Bool → Bool → Bool
 rising now true = false
 rising now false = now
+
+-- what a tick of a delay or a hold gives: its output, and the timer to store
+abbrev pub timed : Bool → Float → Timed
+timed y timer = record { y = y; timer = timer }

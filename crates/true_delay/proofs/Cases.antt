@@ -4,8 +4,8 @@ use mathlib.Core.Bool.{Bool, true, false, not}
 use lib.Ieee.{Float, binary64, add, le}
 use Rattle.reals.specs.Words.{0·0}
 use Rattle.dynamics.specs.Previous.{gap, isFirst}
-use Rattle.dynamics.specs.Leaves.{positiveDuration}
-use Rattle.true_delay.specs.TrueDelay.{waits, timed, outputAndTimer}
+use Rattle.dynamics.specs.Leaves.{positiveDuration, timed}
+use Rattle.true_delay.specs.TrueDelay.{waits, outputAndTimer}
 use Rattle.true_delay.specs.declared.TrueDelay.{TrueDelay}
 use Rattle.true_delay.specs.declared.state.State.{State}
 

@@ -13,14 +13,14 @@ use Rattle.reals.specs.Words.{0·0}
 use Rattle.reals.proofs.Words.{flag-back, real-word}
 use Rattle.reals.proofs.Order.{lt-not-le}
 use Rattle.dynamics.specs.Previous.{soundPrevious, gap, isFirst}
-use Rattle.dynamics.specs.Leaves.{positiveDuration}
+use Rattle.dynamics.specs.Leaves.{positiveDuration, timed}
 use Rattle.dynamics.specs.Machine.{Tick, Call, updates, wordsAfter, run}
 use Rattle.dynamics.specs.Stepped.{machineOf}
 use Rattle.dynamics.specs.History.{History, started, wiped, followed, previousIn, refusedAfter, grown, retold, Wiping}
 use Rattle.dynamics.specs.declared.previous.Previous.the-variants.{Unset, At}
 use Rattle.dynamics.proofs.Gaps.{zero-nonneg, zero-f64, either, sum-nonneg, sum-keeps}
 use Rattle.dynamics.proofs.Histories.{Kept, forward, newest-grown, time-back, from-wiping, from-start, alike}
-use Rattle.true_delay.specs.TrueDelay.{machine, settingsAccepted, timed, outputAndTimer, next, advance, stateOf, wordsOf, outputs}
+use Rattle.true_delay.specs.TrueDelay.{machine, settingsAccepted, outputAndTimer, next, advance, stateOf, wordsOf, outputs}
 use Rattle.true_delay.specs.Account.{inputOf, inputIn, wipes, sum, delay, atOnce, passes, timer, stateAfter, account}
 use Rattle.true_delay.specs.declared.TrueDelay.{TrueDelay}
 

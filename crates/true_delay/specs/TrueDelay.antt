@@ -7,7 +7,7 @@ use lib.Ieee.{Float, binary64, add, lt, le}
 use lib.Ieee.Scale.{finite}
 use Rattle.reals.specs.Words.{0·0, realOf, wordOf, flagOf, wordOfFlag}
 use Rattle.dynamics.specs.Previous.{previousOf, wordOfPrevious, gap, isFirst}
-use Rattle.dynamics.specs.Leaves.{positiveDuration}
+use Rattle.dynamics.specs.Leaves.{positiveDuration, timed}
 use Rattle.dynamics.specs.Answer.{Outputs, booleanOutput}
 use Rattle.dynamics.specs.Machine.{Machine, Reading}
 use Rattle.dynamics.specs.Stepped.{Stepped, machineOf, openedAs}
@@ -25,10 +25,6 @@ use Rattle.true_delay.specs.declared.state.Decoded.the-variants as varia
 -- a true input on the first tick has to wait: it is asked for, and there is a delay
 abbrev pub waits : TrueDelay → Float → Bool
 waits b delay = b .«delay_on_init» && lt 0·0 delay
-
--- what a tick gives: its output, and the timer to store
-abbrev pub timed : Bool → Float → Timed
-timed y timer = record { y = y; timer = timer }
 
 -- `output_and_timer`: after the first tick a held output stays, a rising input begins at 0.0, else the gap comes on top
 unfoldable pub outputAndTimer : TrueDelay → State → Float → Bool → Timed

@@ -4,7 +4,7 @@ use lib.Ieee.{Float, binary64, add, le}
 use lib.Ieee.Scale.{finite}
 use Rattle.reals.specs.Words.{0·0, flagOf}
 use Rattle.dynamics.specs.Previous.{gap, isFirst}
-use Rattle.dynamics.specs.Leaves.{positiveDuration}
+use Rattle.dynamics.specs.Leaves.{positiveDuration, timed}
 use Rattle.dynamics.specs.Machine.{Machine}
 use Rattle.dynamics.specs.Stepped.{Stepped, machineOf}
 use Rattle.dynamics.specs.declared.call.Inputs.{Inputs}
@@ -32,14 +32,14 @@ flips b s time input = not (Bool·beq input (s .held)) && le (required b (s .hel
 -- output agree too, and a flip stores 0.0
 unfoldable pub outputAndTimer : TrueFalseHold → State → Float → Bool → Timed
 outputAndTimer b s time input =
-    cond (isFirst (s .previous)) (record { y = input; timer = 0·0 })
-    (cond (flips b s time input) (record { y = not (s .held); timer = 0·0 })
-    (record { y = s .held; timer = lasted s time }))
+    cond (isFirst (s .previous)) (timed input 0·0)
+    (cond (flips b s time input) (timed (not (s .held)) 0·0)
+    (timed (s .held) (lasted s time)))
 
 unfoldable pub next : TrueFalseHold → State → Float → Bool → State
 next b s time input =
-    let timed = outputAndTimer b s time input in
-    record { held = timed .y; timer = timed .timer; previous = At time }
+    let o = outputAndTimer b s time input in
+    record { held = o .y; timer = o .timer; previous = At time }
 
 -- a tick's input is its first word
 unfoldable pub advance : TrueFalseHold → State → Float → Inputs → State

@@ -9,7 +9,7 @@ use lib.Ieee.Fits.{add-fits}
 use Rattle.reals.specs.Words.{0·0}
 use Rattle.reals.proofs.Words.{flag-back, real-word}
 use Rattle.dynamics.specs.Previous.{soundPrevious, gap, isFirst}
-use Rattle.dynamics.specs.Leaves.{positiveDuration}
+use Rattle.dynamics.specs.Leaves.{positiveDuration, timed}
 use Rattle.dynamics.specs.Machine.{Tick, Call, updates, wordsAfter, run}
 use Rattle.dynamics.specs.Stepped.{machineOf}
 use Rattle.dynamics.specs.History.{History, started, wiped, followed, previousIn, refusedAfter, grown, retold, Wiping}
@@ -24,11 +24,11 @@ use Rattle.true_hold_with_reset.specs.declared.TrueHoldWithReset.{TrueHo
 use Rattle.true_hold_with_reset.proofs.Durations.{below-positive}
 
 abbrev off : Timed
-off = record { y = false; timer = 0·0 }
+off = timed false 0·0
 
 -- what is stored of a hold: its sum while it is true
 abbrev stored : Run → Timed
-stored r = record { y = r .on; timer = cond (r .on) (r .sum) 0·0 }
+stored r = timed (r .on) (cond (r .on) (r .sum) 0·0)
 
 -- the sum with a gap on top, if the hold was true
 abbrev summed : Bool → Float → Float → Float
@@ -37,20 +37,20 @@ summed was x since = cond was (add binary64 x since) 0·0
 module _ (b : TrueHoldWithReset) where
   -- the stored timer serves as the sum, since it is read only while the hold is true: x is the sum before the tick, p the positive duration
   run-next : (was input : Bool) (x since p : Float) → lt (summed was x since) p ≡ lt (summed was x since) (b .duration)
-      → cond (input || (was && lt (summed was (cond was x 0·0) since) p)) (record { y = true; timer = summed was (cond was x 0·0) since }) off ≡ stored (onward b (record { on = was; sum = x }) since input)
+      → cond (input || (was && lt (summed was (cond was x 0·0) since) p)) (timed true (summed was (cond was x 0·0) since)) off ≡ stored (onward b (record { on = was; sum = x }) since input)
   unfolding onward
   run-next true true x since p e = refl
   run-next false true x since p e = refl
   run-next true false x since p e = rw e (go (lt (add binary64 x since) (b .duration)))
     where
-      go : (t : Bool) → cond t (record { y = true; timer = add binary64 x since }) off ≡ record { y = t; timer = cond t (add binary64 x since) 0·0 }
+      go : (t : Bool) → cond t (timed true (add binary64 x since)) off ≡ timed t (cond t (add binary64 x since) 0·0)
       go true = refl
       go false = refl
   run-next false false x since p e = refl
 
   -- the first tick after a start follows the same rule, since no hold is true before it
   first-next : (h : History) (input : Bool) (since : Float) {t : Timed} → t ≡ stored (onward b (hold b h) since input)
-      → cond (isFirst (previousIn h)) (record { y = input; timer = 0·0 }) t ≡ stored (onward b (hold b h) since input)
+      → cond (isFirst (previousIn h)) (timed input 0·0) t ≡ stored (onward b (hold b h) since input)
   unfolding hold onward
   first-next started true since e = refl
   first-next started false since e = refl
@@ -86,8 +86,8 @@ module _ (b : TrueHoldWithReset) where
         go false = nonneg-next
 
     -- what the tick gives if it does not clear, and in either case
-    uncleared : cond (isFirst (previousIn h)) (record { y = inputOf k; timer = 0·0 })
-        (cond (holds b (stateAfter b h) (runTime (stateAfter b h) (k .time)) (inputOf k)) (record { y = true; timer = runTime (stateAfter b h) (k .time) }) off)
+    uncleared : cond (isFirst (previousIn h)) (timed (inputOf k) 0·0)
+        (cond (holds b (stateAfter b h) (runTime (stateAfter b h) (k .time)) (inputOf k)) (timed true (runTime (stateAfter b h) (k .time))) off)
         ≡ stored (hold b (followed h k))
     unfolding holds runTime stateAfter hold
     uncleared =

@@ -4,7 +4,7 @@ use lib.Ieee.{Float, binary64, add, lt}
 use lib.Ieee.Scale.{finite}
 use Rattle.reals.specs.Words.{0·0, flagOf}
 use Rattle.dynamics.specs.Previous.{gap, isFirst}
-use Rattle.dynamics.specs.Leaves.{positiveDuration}
+use Rattle.dynamics.specs.Leaves.{positiveDuration, timed}
 use Rattle.dynamics.specs.Machine.{Machine}
 use Rattle.dynamics.specs.Stepped.{Stepped, machineOf}
 use Rattle.dynamics.specs.declared.call.Inputs.{Inputs}
@@ -28,15 +28,15 @@ holds b s timer input = input || (s .held && lt timer (positiveDuration (b .dura
 unfoldable pub outputAndTimer : TrueHoldWithReset → State → Float → Bool → Bool → Timed
 outputAndTimer b s time input clear =
     let timer = runTime s time in
-    cond clear (record { y = false; timer = 0·0 })
-    (cond (isFirst (s .previous)) (record { y = input; timer = 0·0 })
-    (cond (holds b s timer input) (record { y = true; timer = timer })
-    (record { y = false; timer = 0·0 })))
+    cond clear (timed false 0·0)
+    (cond (isFirst (s .previous)) (timed input 0·0)
+    (cond (holds b s timer input) (timed true timer)
+    (timed false 0·0)))
 
 unfoldable pub next : TrueHoldWithReset → State → Float → Bool → Bool → State
 next b s time input clear =
-    let timed = outputAndTimer b s time input clear in
-    record { held = timed .y; timer = timed .timer; previous = At time }
+    let o = outputAndTimer b s time input clear in
+    record { held = o .y; timer = o .timer; previous = At time }
 
 -- a tick's two inputs are its first words
 unfoldable pub advance : TrueHoldWithReset → State → Float → Inputs → State

@@ -18,7 +18,7 @@ use Rattle.dynamics.specs.declared.previous.Previous.the-variants.{Unset, At}
 use Rattle.dynamics.proofs.Gaps.{zero-nonneg, zero-f64, either, sum-nonneg, sum-keeps}
 use Rattle.dynamics.proofs.Histories.{Kept, newest-grown, time-back, grown-sound, from-wiping, from-start, alike}
 use Rattle.timer_accumulating.specs.TimerAccumulating.{machine, settingsAccepted, yNow, passedNow, next, advance, stateOf, wordsOf, outputs}
-use Rattle.timer_accumulating.specs.Account.{inputOf, resetOf, inputIn, resetIn, wipes, total, stateAfter, account}
+use Rattle.timer_accumulating.specs.Account.{inputOf, resetOf, inputIn, wipes, total, stateAfter, account}
 use Rattle.timer_accumulating.specs.declared.TimerAccumulating.{TimerAccumulating}
 
 or-holds : (p q : Bool) → (T q → T p) → cond p true q ≡ p

@@ -1,5 +1,4 @@
 -- `state_length` is the block's, if its settings are accepted. Assumes nothing.
-use mathlib.Core.Path.{ap, _∙_}
 use borrow.Author.Needs.{needs}
 use Rattle.dynamics.specs.Machine.{lengthAnswer}
 use Rattle.dynamics.specs.Stepped.{machineOf}

@@ -1,11 +1,11 @@
 -- A hold as the laws of blocks with a state record take it. Assumes nothing.
 use mathlib.Core.Path.{_≡_, refl}
 use mathlib.Core.Bool.{Bool, true}
-use mathlib.Core.List.{List}
+use mathlib.Core.List.{List, []}
 use Prim.Native.Nat.{ℕ}
 use native.Mathlib.Omega.{arith}
 use lib.ListN.{length}
-use lib.Ieee.{Float}
+use lib.Ieee.{Float, ofBits}
 use Rattle.dynamics.specs.Previous.{previousOf}
 use Rattle.dynamics.specs.Machine.{Machine, startRefusal, startedWords, decodeRefusal, decodeAnswer, isSound}
 use Rattle.dynamics.specs.Stepped.{machineOf}
@@ -20,6 +20,11 @@ use Rattle.hold.specs.declared.Decoded.the-variants as variant
 
 pub apart : (s : State) (n : ℕ) → variant.State s ≡ Refused n → ⊥
 apart s n e = let z : _≡_ {A = ℕ} 0 1 = cc in omega arith
+
+-- the record of zeros is what words of 0 mean
+pub zeros-mean : stateOf [] ≡ zeros
+unfolding stateOf previousOf ofBits
+zeros-mean = refl
 
 abbrev pub decoded : Enum State Decoded
 decoded = record {

@@ -3,6 +3,7 @@ pub mod Times
 pub mod Copies
 pub mod Accepted
 pub mod Calls
+pub mod Once
 pub mod Histories
 pub mod Gaps
 pub mod Steps

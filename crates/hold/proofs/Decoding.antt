@@ -7,12 +7,13 @@ use native.Mathlib.Omega.{arith}
 use lib.ListN.{length}
 use lib.Ieee.{Float, ofBits}
 use Rattle.dynamics.specs.Previous.{previousOf}
-use Rattle.dynamics.specs.Machine.{Machine, startRefusal, startedWords, decodeRefusal, decodeAnswer, isSound}
+use Rattle.dynamics.specs.Region.{Gives}
+use Rattle.dynamics.specs.Machine.{Machine, startRefusal, tickRefusal, startedWords, decodeRefusal, decodeAnswer, isSound}
 use Rattle.dynamics.specs.Stepped.{machineOf}
 use Rattle.dynamics.specs.declared.call.Inputs.{Inputs}
 use Rattle.dynamics.proofs.Calls.{start-sound}
 use Rattle.dynamics.proofs.Steps.{Enum, Opens, decode-reads}
-use Rattle.hold.specs.Hold.{stateOf, wordsOf, holdOf, opened, zeros, reads}
+use Rattle.hold.specs.Hold.{stateOf, wordsOf, holdOf, bare, opened, zeros, reads}
 use Rattle.hold.specs.declared.State.{State}
 use Rattle.hold.specs.declared.Decoded.{Decoded}
 use Rattle.hold.specs.declared.Decoded.the-variants.{Refused}
@@ -46,6 +47,9 @@ counted s = refl
 abbrev pub opens : {X : Type 0} → (X → Bool) → (X → State → Float → Inputs → State) → Opens X State Decoded
 opens accepts advance = record { enum = decoded; block = λ b. holdOf (accepts b) (advance b); counted = λ b s. counted s }
 
+abbrev pub bares : Opens Bool State Decoded
+bares = opens (λ a. a) (λ a s time i. s)
+
 module _ (accepts : Bool) (advance : State → Float → Inputs → State) where
   abbrev machine : Machine
   machine = machineOf (holdOf accepts advance)
@@ -58,3 +62,17 @@ module _ (accepts : Bool) (advance : State → Float → Inputs → State) where
   pub fresh-sound : (w : List ℕ) → startRefusal machine w ≡ 0 → isSound machine (startedWords machine w) ≡ true
   unfolding machineOf wordsOf stateOf previousOf
   fresh-sound w z = start-sound machine w refl refl z
+
+  -- a hold is started and taken apart as a bare one with the same settings
+  module _ {a : Bool} (settings : a ≡ accepts) (w : List ℕ) where
+    pub started-alike : {n : ℕ} {w' : List ℕ} → Gives (startRefusal (bare a) w) (startedWords (bare a) w) n w' → Gives (startRefusal machine w) (startedWords machine w) n w'
+    unfolding startRefusal startedWords machineOf
+    started-alike g = rw settings at g
+
+    pub decoded-alike : {d : Decoded} → d ≡ opened (decodeRefusal (bare a) w) w → d ≡ opened (decodeRefusal machine w) w
+    unfolding decodeRefusal machineOf
+    decoded-alike e = rw settings at e
+
+    pub admitted-alike : (time : Float) {d : Decoded} → d ≡ opened (tickRefusal (bare a) time w) w → d ≡ opened (tickRefusal machine time w) w
+    unfolding tickRefusal machineOf
+    admitted-alike time e = rw settings at e

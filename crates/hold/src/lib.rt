@@ -1,15 +1,19 @@
-// The state that both holds have, and its three words in a region.
+// What the two holds share: their state, its three words in a region, and how a region is started and taken apart.
 use dynamics::Previous;
 use dynamics::flag_at;
+use dynamics::form_refusal;
 use dynamics::previous_at;
+use dynamics::previous_sound;
 use dynamics::real_at;
 use dynamics::store;
+use dynamics::time_refusal;
 use dynamics::word_of_previous;
 use reals::word_of;
 use reals::word_of_flag;
 ghost use mathlib.Core.Path.{_≡_};
-ghost use Rattle.dynamics.specs.Region.{stored};
-ghost use Rattle.hold.specs.Hold.{initial, stateOf, wordsOf, reads};
+ghost use Rattle.dynamics.specs.Region.{stored, Gives};
+ghost use Rattle.dynamics.specs.Machine.{startRefusal, decodeRefusal, tickRefusal, startedWords};
+ghost use Rattle.hold.specs.Hold.{initial, stateOf, wordsOf, bare, opened, reads};
 
 // Which word is which.
 const HELD_WORD: usize = 0;
@@ -76,4 +80,49 @@ pub fn write(region: &mut [u64], s: State)
         word_of_previous(previous),
     ];
     store(region, &words);
+}
+
+// Writes the words of a fresh hold, if its settings are accepted. The refusal number; 0 is accepted.
+pub fn start(accepted: bool, region: &mut [u64]) -> u64
+    ensures { λ r. ⌜ Gives (startRefusal (bare accepted) (now (region .entry))) (startedWords (bare accepted) (now (region .entry))) r (now (region .exit)) ⌝ }
+{
+    let n = form_refusal(accepted, region.len() == STATE_LEN);
+    if n != 0 {
+        return n;
+    }
+    write(region, init_state());
+    0
+}
+
+// A region taken apart.
+pub fn decode(accepted: bool, region: &[u64]) -> Decoded
+    ensures { λ r. ⌜ r ≡ opened (decodeRefusal (bare accepted) (now (region .entry))) (now (region .entry)) ⌝ }
+{
+    let n = form_refusal(accepted, region.len() == STATE_LEN);
+    if n != 0 {
+        return Decoded::Refused(n);
+    }
+    let s = state_of(region);
+    let previous = s.previous;
+    if previous_sound(previous) {
+        return Decoded::State(s);
+    }
+    Decoded::Refused(6)
+}
+
+// A region taken apart for a tick at this time: each test once, in the table's order.
+pub fn admit(accepted: bool, time: f64, region: &[u64]) -> Decoded
+    ensures { λ r. ⌜ r ≡ opened (tickRefusal (bare accepted) time (now (region .entry))) (now (region .entry)) ⌝ }
+{
+    let n = form_refusal(accepted, region.len() == STATE_LEN);
+    if n != 0 {
+        return Decoded::Refused(n);
+    }
+    let s = state_of(region);
+    let previous = s.previous;
+    let k = time_refusal(time, previous_sound(previous), previous);
+    if k != 0 {
+        return Decoded::Refused(k);
+    }
+    Decoded::State(s)
 }

@@ -5,23 +5,19 @@ use dynamics::Answer;
 use dynamics::Inputs;
 use dynamics::Length;
 use dynamics::boolean_answer;
-use dynamics::form_refusal;
 use dynamics::length_answer;
-use dynamics::previous_sound;
 use dynamics::silent;
-use dynamics::time_refusal;
 pub use hold::Decoded;
 use hold::STATE_LEN;
 pub use hold::State;
-use hold::init_state;
+use hold::admit;
 pub use hold::number_of;
-use hold::state_of;
 use hold::write;
 use reals::is_finite;
 use step::step;
 ghost use mathlib.Core.Path.{_≡_};
 ghost use Rattle.dynamics.specs.Region.{Gives};
-ghost use Rattle.dynamics.specs.Machine.{lengthAnswer, startRefusal, decodeRefusal, tickRefusal, startedWords, isSound, emitAnswer, updateAnswer, updatedWords, tickAnswer};
+ghost use Rattle.dynamics.specs.Machine.{lengthAnswer, startRefusal, decodeRefusal, startedWords, isSound, emitAnswer, updateAnswer, updatedWords, tickAnswer};
 ghost use Rattle.hold.specs.Hold.{opened};
 ghost use Rattle.true_false_hold.specs.TrueFalseHold.{settingsAccepted, machine};
 
@@ -48,28 +44,14 @@ pub fn state_length(settings: TrueFalseHold) -> Length
 pub fn start(settings: TrueFalseHold, region: &mut [u64]) -> u64
     ensures { λ r. ⌜ Gives (startRefusal (machine settings) (now (region .entry))) (startedWords (machine settings) (now (region .entry))) r (now (region .exit)) ⌝ }
 {
-    let n = form_refusal(settings_accepted(settings), region.len() == STATE_LEN);
-    if n != 0 {
-        return n;
-    }
-    write(region, init_state());
-    0
+    hold::start(settings_accepted(settings), region)
 }
 
 // A region taken apart.
 pub fn decode(settings: TrueFalseHold, region: &[u64]) -> Decoded
     ensures { λ r. ⌜ r ≡ opened (decodeRefusal (machine settings) (now (region .entry))) (now (region .entry)) ⌝ }
 {
-    let n = form_refusal(settings_accepted(settings), region.len() == STATE_LEN);
-    if n != 0 {
-        return Decoded::Refused(n);
-    }
-    let s = state_of(region);
-    let previous = s.previous;
-    if previous_sound(previous) {
-        return Decoded::State(s);
-    }
-    Decoded::Refused(6)
+    hold::decode(settings_accepted(settings), region)
 }
 
 // Whether a region decodes.
@@ -79,28 +61,11 @@ pub fn sound(settings: TrueFalseHold, region: &[u64]) -> bool
     number_of(decode(settings, region)) == 0
 }
 
-// A region taken apart for a tick at this time: each test once, in the table's order.
-fn admit(settings: TrueFalseHold, time: f64, region: &[u64]) -> Decoded
-    ensures { λ r. ⌜ r ≡ opened (tickRefusal (machine settings) time (now (region .entry))) (now (region .entry)) ⌝ }
-{
-    let n = form_refusal(settings_accepted(settings), region.len() == STATE_LEN);
-    if n != 0 {
-        return Decoded::Refused(n);
-    }
-    let s = state_of(region);
-    let previous = s.previous;
-    let k = time_refusal(time, previous_sound(previous), previous);
-    if k != 0 {
-        return Decoded::Refused(k);
-    }
-    Decoded::State(s)
-}
-
 // The output as of this tick; nothing is stored.
 pub fn emit(settings: TrueFalseHold, time: f64, inputs: Inputs, region: &[u64]) -> Answer
     ensures { λ r. ⌜ r ≡ emitAnswer (machine settings) time inputs (now (region .entry)) ⌝ }
 {
-    let met = admit(settings, time, region);
+    let met = admit(settings_accepted(settings), time, region);
     let Decoded::State(s) = met else {
         return silent(number_of(met));
     };
@@ -112,7 +77,7 @@ pub fn emit(settings: TrueFalseHold, time: f64, inputs: Inputs, region: &[u64]) 
 pub fn update(settings: TrueFalseHold, time: f64, inputs: Inputs, region: &mut [u64]) -> Answer
     ensures { λ r. ⌜ Gives (updateAnswer (machine settings) time inputs (now (region .entry))) (updatedWords (machine settings) time inputs (now (region .entry))) r (now (region .exit)) ⌝ }
 {
-    let met = admit(settings, time, region);
+    let met = admit(settings_accepted(settings), time, region);
     let Decoded::State(s) = met else {
         return silent(number_of(met));
     };
@@ -124,7 +89,7 @@ pub fn update(settings: TrueFalseHold, time: f64, inputs: Inputs, region: &mut [
 pub fn tick(settings: TrueFalseHold, time: f64, inputs: Inputs, region: &mut [u64]) -> Answer
     ensures { λ r. ⌜ Gives (tickAnswer (machine settings) time inputs (now (region .entry))) (updatedWords (machine settings) time inputs (now (region .entry))) r (now (region .exit)) ⌝ }
 {
-    let met = admit(settings, time, region);
+    let met = admit(settings_accepted(settings), time, region);
     let Decoded::State(s) = met else {
         return silent(number_of(met));
     };

@@ -1,23 +1,15 @@
--- `start` writes the words of a fresh hold. Assumes nothing.
-use native.Mathlib.Omega.{arith}
-use mathlib.Core.Path.{ap, _∙_}
+-- `start` is that of a hold with these settings. Assumes nothing.
 use borrow.Author.Needs.{needs}
-use Rattle.dynamics.specs.Region.{stored}
-use Rattle.dynamics.proofs.Steps.{start-form, start-then}
-use Rattle.hold.specs.Hold.{wordsOf}
-use Rattle.true_false_hold.proofs.Decoding.{hold}
+use Rattle.hold.proofs.Decoding.{started-alike}
+use Rattle.true_false_hold.specs.TrueFalseHold.{settingsAccepted, advance}
 use Rattle.true_false_hold.proofs.start.Statement.{statement}
 use Rattle.true_false_hold.proofs.start.Tie as tie
 
 returns : tie.Need-returns
-returns c = start-form hold (c .before .before .before .before .args .settings) _ (c .before .before .settings-accepted .ensures) (c .before .form-refusal .ensures) (λ z. omega arith)
-
-returns-2 : tie.Need-returns-2
-returns-2 c =
-    let f = c .before .before .before .before .before .before in
-    let a = f .before .before .before .args in
-    start-then hold (a .settings) _ (f .before .settings-accepted .ensures) (f .form-refusal .ensures) (omega arith)
-    (c .before .before .write .ensures ∙ ap (λ s. stored (a .region .now) (wordsOf s)) (c .before .before .before .init-state .ensures))
+returns c =
+    let a = c .before .before .before .before in
+    let b = a .before .before .args .settings in
+    started-alike (settingsAccepted b) (advance b) (a .settings-accepted .ensures) _ (c .before .before .start .ensures)
 
 pub start-spec : {M : Type 1} → statement M
-start-spec = tie.close (tie.spec (λ c κs. search needs) (λ c κs. search needs) returns (λ c κs. search needs) (λ c κs. search needs) (λ c. search needs) returns-2)
+start-spec = tie.close (tie.spec (λ c κs. search needs) (λ c κs. search needs) (λ c. search needs) returns)

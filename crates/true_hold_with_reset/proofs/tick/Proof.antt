@@ -4,6 +4,8 @@ use borrow.Author.Needs.{needs}
 use Rattle.dynamics.specs.Answer.{emitted}
 use Rattle.dynamics.proofs.Steps.{tick-else, tick-then}
 use Rattle.hold.specs.Hold.{outputs}
+use Rattle.hold.proofs.Decoding.{admitted-alike}
+use Rattle.true_hold_with_reset.specs.TrueHoldWithReset.{settingsAccepted, advance}
 use Rattle.true_hold_with_reset.proofs.Decoding.{hold}
 use Rattle.true_hold_with_reset.proofs.tick.Statement.{statement}
 use Rattle.true_hold_with_reset.proofs.tick.Tie as tie
@@ -11,14 +13,16 @@ use Rattle.true_hold_with_reset.proofs.tick.Tie as tie
 returns : tie.Need-returns
 returns c =
     let a = c .before .before .before .before in
-    tick-else hold (a .before .before .before .args .settings) _ _ _ (a .admit .ensures) (c .before .before .enum-told .given .1) (c .before .number-of .ensures) (c .silent .ensures)
+    let b = a .before .before .before .before .args .settings in
+    tick-else hold b _ _ _ (admitted-alike (settingsAccepted b) (advance b) (a .before .before .settings-accepted .ensures) _ _ (a .admit .ensures)) (c .before .before .enum-told .given .1) (c .before .number-of .ensures) (c .silent .ensures)
 
 returns-2 : tie.Need-returns-2
 returns-2 c =
     let a = c .before .before .before .before .before .before .before .before .before in
+    let b = a .before .before .before .before .args .settings in
     let s = c .before .before .before .before .before in
-    tick-then hold (a .before .before .before .args .settings) _ _ _ (a .admit .ensures) (s .before .before .met .given .1) (s .step .ensures) (c .before .before .before .write .ensures)
+    tick-then hold b _ _ _ (admitted-alike (settingsAccepted b) (advance b) (a .before .before .settings-accepted .ensures) _ _ (a .admit .ensures)) (s .before .before .met .given .1) (s .step .ensures) (c .before .before .before .write .ensures)
     (c .boolean-answer .ensures ∙ ap (λ s. emitted (outputs s)) (s .step .ensures))
 
 pub tick-spec : {M : Type 1} → statement M
-tick-spec = tie.close (tie.spec (λ c κs. search needs) (λ c. search needs) (λ c. search needs) (λ c κs. search needs) (λ c κs. search needs) (λ c. search needs) returns (λ c κs. search needs) (λ c κs. search needs) (λ c κs. search needs) (λ c. search needs) returns-2)
+tick-spec = tie.close (tie.spec (λ c κs. search needs) (λ c κs. search needs) (λ c. search needs) (λ c. search needs) (λ c κs. search needs) (λ c κs. search needs) (λ c. search needs) returns (λ c κs. search needs) (λ c κs. search needs) (λ c κs. search needs) (λ c. search needs) returns-2)

@@ -1,6 +1,8 @@
 -- `update` stores the state after the tick. Assumes nothing.
 use borrow.Author.Needs.{needs}
 use Rattle.dynamics.proofs.Steps.{update-else, update-then}
+use Rattle.hold.proofs.Decoding.{admitted-alike}
+use Rattle.true_hold_with_reset.specs.TrueHoldWithReset.{settingsAccepted, advance}
 use Rattle.true_hold_with_reset.proofs.Decoding.{hold}
 use Rattle.true_hold_with_reset.proofs.update.Statement.{statement}
 use Rattle.true_hold_with_reset.proofs.update.Tie as tie
@@ -8,12 +10,14 @@ use Rattle.true_hold_with_reset.proofs.update.Tie as tie
 returns : tie.Need-returns
 returns c =
     let a = c .before .before .before .before in
-    update-else hold (a .before .before .before .args .settings) _ _ _ (a .admit .ensures) (c .before .before .enum-told .given .1) (c .before .number-of .ensures) (c .silent .ensures)
+    let b = a .before .before .before .before .args .settings in
+    update-else hold b _ _ _ (admitted-alike (settingsAccepted b) (advance b) (a .before .before .settings-accepted .ensures) _ _ (a .admit .ensures)) (c .before .before .enum-told .given .1) (c .before .number-of .ensures) (c .silent .ensures)
 
 returns-2 : tie.Need-returns-2
 returns-2 c =
     let a = c .before .before .before .before .before .before .before .before .before in
-    update-then hold (a .before .before .before .args .settings) _ _ _ (a .admit .ensures) (c .before .before .before .before .before .before .before .met .given .1) (c .before .before .before .before .step .ensures) (c .before .before .before .write .ensures) (c .silent2 .ensures)
+    let b = a .before .before .before .before .args .settings in
+    update-then hold b _ _ _ (admitted-alike (settingsAccepted b) (advance b) (a .before .before .settings-accepted .ensures) _ _ (a .admit .ensures)) (c .before .before .before .before .before .before .before .met .given .1) (c .before .before .before .before .step .ensures) (c .before .before .before .write .ensures) (c .silent2 .ensures)
 
 pub update-spec : {M : Type 1} → statement M
-update-spec = tie.close (tie.spec (λ c κs. search needs) (λ c. search needs) (λ c. search needs) (λ c κs. search needs) (λ c κs. search needs) (λ c. search needs) returns (λ c κs. search needs) (λ c κs. search needs) (λ c κs. search needs) (λ c. search needs) returns-2)
+update-spec = tie.close (tie.spec (λ c κs. search needs) (λ c κs. search needs) (λ c. search needs) (λ c. search needs) (λ c κs. search needs) (λ c κs. search needs) (λ c. search needs) returns (λ c κs. search needs) (λ c κs. search needs) (λ c κs. search needs) (λ c. search needs) returns-2)

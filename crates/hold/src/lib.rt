@@ -48,7 +48,7 @@ pub fn number_of(d: Decoded) -> u64
 }
 
 // The state of a fresh hold.
-pub fn init_state() -> State
+fn init_state() -> State
     ensures { λ r. ⌜ r ≡ initial ⌝ }
 {
     State {
@@ -59,7 +59,7 @@ pub fn init_state() -> State
 }
 
 // What a region's words mean.
-pub fn state_of(region: &[u64]) -> State
+fn state_of(region: &[u64]) -> State
     ensures { λ r. ⌜ r ≡ stateOf (now (region .entry)) ⌝ }
 {
     State {

@@ -8,9 +8,9 @@ use lib.Ieee.{Float}
 use lib.Ieee.Scale.{finite}
 use borrow.Author.Tests.{not-true, eq-eqb}
 use Rattle.dynamics.specs.Previous.{runsBack, previousOf, wordOfPrevious, soundPrevious}
-use Rattle.dynamics.specs.Answer.{silent, emitted, updated, refusalOf, formRefusal, accept}
+use Rattle.dynamics.specs.Answer.{silent, emitted, updated, refusalOf, formRefusal, timeRefusal, accept}
 use Rattle.dynamics.specs.Machine.{Machine, startRefusal, startedWords, tickRefusal, emitAnswer, updateAnswer, updatedWords, Tick, Call, starts, emits, updates, answerTo, wordsAfter, run}
-use Rattle.dynamics.specs.History.{History, started, wiped, followed, newest, previousIn, Account, refusedAfter, grown, retold, Wiping}
+use Rattle.dynamics.specs.History.{History, started, wiped, followed, newest, previousIn, Account, refusedAfter, grown, retold, Wiping, RetoldFromWiping, AlikeFromWiping, RetoldFromStart}
 use Rattle.dynamics.specs.declared.call.Inputs.{Inputs}
 use Rattle.dynamics.specs.declared.previous.Previous.the-variants.{Unset, At}
 use Rattle.dynamics.proofs.Times.{previous-back, unset-back}
@@ -19,7 +19,7 @@ use Rattle.dynamics.proofs.Calls.{tick-settings, tick-time}
 
 -- an accepted tick is finite and not below the one before
 pub forward : (k : Tick) (h : History) → refusedAfter k h ≡ 0 → (finite (k .time) ≡ true) × (runsBack (k .time) (previousIn h) ≡ false)
-unfolding refusedAfter
+unfolding refusedAfter timeRefusal
 forward k h ok =
     let (_, _, _, _, t, _, o) = all-passed true true true true (finite (k .time)) true (not (runsBack (k .time) (previousIn h))) ok in
     (t, not-true (runsBack (k .time) (previousIn h)) o)
@@ -71,7 +71,7 @@ module _ (M : Machine) (A : Account) (Good : History → Type 0) (K : Kept M A G
 
     module _ (k : Tick) (h : History) (g : Good h) where
       same-refusal : tickRefusal M (k .time) (A .words h) ≡ refusedAfter k h
-      unfolding tickRefusal refusedAfter
+      unfolding tickRefusal refusedAfter timeRefusal
       same-refusal = simp (settings, K .counted h, eq-eqb (M .size) (M .size) refl, K .decodes h g, K .previous h g)
 
       same-emit : emitAnswer M (k .time) (k .inputs) (A .words h) ≡ accept (refusedAfter k h) (emitted (A .output k h)) (silent (refusedAfter k h))
@@ -109,9 +109,9 @@ module _ (M : Machine) (A : Account) (Good : History → Type 0) (K : Kept M A G
     follows (updates k ∷ cs) h g =
         rw (same-update k h g, same-words k h g, follows cs (accept (refusedAfter k h) (grown (A .wipes) h k) h) (same-good k h g))
 
-    -- from a fresh start
-    pub from-start : (cs : List Call) → run M (M .fresh) cs ≡ retold A started cs
-    from-start cs = ap (λ (w : List ℕ). run M w cs) (K .fresh) ∙ follows cs started (K .good-fresh)
+  -- from a fresh start
+  pub from-start : RetoldFromStart M A
+  from-start settings cs = ap (λ (w : List ℕ). run M w cs) (K .fresh) ∙ follows settings cs started (K .good-fresh)
 
   -- a wiping tick leaves its own words, whatever the region held before it
   pub wiped-clean : (w : List ℕ) (k : Tick) → Wiping A M w k → wordsAfter M w (updates k) ≡ A .words (wiped k)
@@ -119,12 +119,11 @@ module _ (M : Machine) (A : Account) (Good : History → Type 0) (K : Kept M A G
   wiped-clean w k p = sym (accepted (M .after w (k .time) (k .inputs)) w (tickRefusal M (k .time) w) (sym (p .accepted))) ∙ K .wiped-words k w p
 
   -- and from then on it is what the history since tells
-  pub from-wiping : (w : List ℕ) (k : Tick) → Wiping A M w k → (cs : List Call) → run M (wordsAfter M w (updates k)) cs ≡ retold A (wiped k) cs
+  pub from-wiping : RetoldFromWiping M A
   from-wiping w k p cs =
       rw (wiped-clean w k p)
       (follows (tick-settings M (k .time) (k .inputs) w (p .accepted)) cs (wiped k) (K .good-wiped k (tick-time M (k .time) (k .inputs) w (p .accepted))))
 
-  -- so a wiping tick wipes: any two regions that it meets are alike from then on, over any calls, starts among them
-  pub alike : (v w : List ℕ) (k : Tick) → Wiping A M v k → Wiping A M w k → (cs : List Call)
-      → run M (wordsAfter M v (updates k)) cs ≡ run M (wordsAfter M w (updates k)) cs
+  -- so a wiping tick wipes
+  pub alike : AlikeFromWiping M A
   alike v w k p q cs = from-wiping v k p cs ∙ sym (from-wiping w k q cs)

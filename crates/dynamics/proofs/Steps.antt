@@ -14,9 +14,10 @@ use Rattle.dynamics.specs.Machine.{Machine, startRefusal, startedWords, 
 use Rattle.dynamics.specs.Stepped.{Stepped, machineOf, openedAs}
 use Rattle.dynamics.specs.declared.call.Answer.{Answer}
 use Rattle.dynamics.specs.declared.call.Inputs.{Inputs}
+use Rattle.dynamics.specs.declared.previous.Previous.the-variants.{Unset}
 use Rattle.dynamics.proofs.Accepted.{accepted, refused-6, refused-none, form-fails, form-passes}
 use Rattle.dynamics.proofs.Accepted as by
-use Rattle.dynamics.proofs.Calls.{sound-decodes, start-refused, start-accepted, emit-refused, emit-accepted, update-refused, update-accepted, tick-refused, tick-accepted}
+use Rattle.dynamics.proofs.Calls.{sound-decodes, start-sound, start-refused, start-accepted, emit-refused, emit-accepted, update-refused, update-accepted, tick-refused, tick-accepted}
 
 -- A decoding enum: its two cases, document 01's number and values of each, and that they are two.
 pub record Enum (S D : Type 0) : Type 0 where
@@ -33,17 +34,14 @@ module _ {S D : Type 0} (E : Enum S D) where
   Opened n x = openedAs (E .state) (E .refused) n x
 
   -- what it says: the number, and the state or the zeros
-  pub opened-reads : (n : ℕ) (x : S) → E .reads (Opened n x) ≡ record { refusal = n; state = accept n x (E .zeros) }
+  opened-reads : (n : ℕ) (x : S) → E .reads (Opened n x) ≡ record { refusal = n; state = accept n x (E .zeros) }
   unfolding openedAs accept
   opened-reads zero x = E .reads-state x
   opened-reads (suc n) x = E .reads-refused (suc n)
 
-  pub decode-reads : (M : Machine) (stateOf : List ℕ → S) (w : List ℕ) → E .reads (Opened (decodeRefusal M w) (stateOf w)) ≡ decodeAnswer M stateOf (E .zeros) w
-  unfolding decodeAnswer
-  decode-reads M stateOf w = opened-reads (decodeRefusal M w) (stateOf w)
-
-  opened-number : (n : ℕ) (x : S) → E .reads (Opened n x) .refusal ≡ n
-  opened-number n x = ap (λ (r : Reading S). r .refusal) (opened-reads n x)
+  -- so the number that it stands for is the call's
+  opened-number : (n : ℕ) (x : S) {d : D} {k : ℕ} → d ≡ Opened n x → k ≡ E .reads d .refusal → k ≡ n
+  opened-number n x o e = e ∙ ap (λ (d : D). E .reads d .refusal) o ∙ ap (λ (r : Reading S). r .refusal) (opened-reads n x)
 
   -- made
   open-refused : (n : ℕ) (x : S) {m : ℕ} → m ≡ n → (m ≡ 0 → ⊥) → E .refused m ≡ Opened n x
@@ -65,11 +63,13 @@ module _ {S D : Type 0} (E : Enum S D) where
   was-state zero x s d = (refl, sym (ap (λ (r : Reading S). r .state) (sym (E .reads-state x) ∙ ap (E .reads) d ∙ E .reads-state s)))
   was-state (suc n) x s d = absurd (E .apart s (suc n) (sym d))
 
--- Blocks with settings X whose calls open such an enum first; a state has as many words as the block says.
+-- Blocks with settings X whose calls open such an enum first. A state has as many words as the block says, and a fresh one is read
+-- back with its previous time unset.
 pub record Opens (X S D : Type 0) : Type 0 where
   pub enum : Enum S D
   pub block : X → Stepped S
   pub counted : (b : X) (s : S) → length (block b .wordsOf s) ≡ block b .size
+  pub fresh-unset : (b : X) → block b .previous (block b .stateOf (block b .wordsOf (block b .initial))) ≡ Unset
 
 module _ {X S D : Type 0} (O : Opens X S D) (b : X) where
   abbrev E : Enum S D
@@ -92,7 +92,7 @@ module _ {X S D : Type 0} (O : Opens X S D) (b : X) where
     module _ {d : D} (opened : d ≡ met) where
       module _ {m k : ℕ} (is : d ≡ E .refused m) (e : k ≡ E .reads d .refusal) where
         told-number : k ≡ number
-        told-number = e ∙ ap (λ (q : D). E .reads q .refusal) opened ∙ opened-number E number (B .stateOf w)
+        told-number = opened-number E number (B .stateOf w) opened e
 
         refusal : k ≡ 0 → ⊥
         refusal z = was-refused E number (B .stateOf w) m (sym opened ∙ is) (sym told-number ∙ z)
@@ -185,7 +185,20 @@ module _ {X S D : Type 0} (O : Opens X S D) (b : X) where
           pub admit-else : (k ≡ 0 → ⊥) → E .refused k ≡ Opened E (tickRefusal M time w) (B .stateOf w)
           admit-else bad = open-refused E (tickRefusal M time w) (B .stateOf w) last bad
 
-  -- it is sound exactly if it decodes
-  pub sound-number : (w : List ℕ) {k : ℕ} → k ≡ E .reads (Opened E (decodeRefusal M w) (B .stateOf w)) .refusal → eqb k 0 ≡ isSound M w
-  unfolding machineOf
-  sound-number w e = rw (e ∙ opened-number E (decodeRefusal M w) (B .stateOf w)) (sym (sound-decodes M w refl))
+  -- ---- what decoding answers, in document 01's number and values; its number; that a region is sound exactly if it decodes
+  module _ (w : List ℕ) where
+    pub decode-says : E .reads (Opened E (decodeRefusal M w) (B .stateOf w)) ≡ decodeAnswer M (B .stateOf) (E .zeros) w
+    unfolding decodeAnswer
+    decode-says = opened-reads E (decodeRefusal M w) (B .stateOf w)
+
+    pub decode-number : {d : D} {k : ℕ} → d ≡ Opened E (decodeRefusal M w) (B .stateOf w) → k ≡ E .reads d .refusal → k ≡ decodeRefusal M w
+    decode-number o e = opened-number E (decodeRefusal M w) (B .stateOf w) o e
+
+    pub sound-number : {k : ℕ} → k ≡ decodeRefusal M w → eqb k 0 ≡ isSound M w
+    unfolding machineOf
+    sound-number e = rw e (sym (sound-decodes M w refl))
+
+    -- a fresh start is sound
+    pub fresh-sound : startRefusal M w ≡ 0 → isSound M (startedWords M w) ≡ true
+    unfolding machineOf
+    fresh-sound z = start-sound M w (O .counted b (B .initial)) (ap soundPrevious (O .fresh-unset b)) z

@@ -1,12 +1,10 @@
 -- A block told from its history alone: the accepted ticks since the latest start or wiping tick. No region is read. Definitions only.
 use Prim.Native.Nat.{ℕ}
 use mathlib.Core.Path.{_≡_}
-use mathlib.Core.Bool.{Bool, true, not, cond}
+use mathlib.Core.Bool.{Bool, true, cond}
 use mathlib.Core.List.{List, [], _∷_}
-use lib.Ieee.Scale.{finite}
-use Rattle.dynamics.specs.Previous.{runsBack}
-use Rattle.dynamics.specs.Answer.{Outputs, silent, emitted, refusalOf, skipped, accept}
-use Rattle.dynamics.specs.Machine.{Machine, tickRefusal, Tick, Call, starts, emits, updates, Seen}
+use Rattle.dynamics.specs.Answer.{Outputs, silent, emitted, timeRefusal, accept}
+use Rattle.dynamics.specs.Machine.{Machine, tickRefusal, Tick, Call, starts, emits, updates, Seen, wordsAfter, run}
 use Rattle.dynamics.specs.declared.previous.Previous.{Previous}
 use Rattle.dynamics.specs.declared.previous.Previous.the-variants.{Unset, At}
 
@@ -36,7 +34,7 @@ pub record Account : Type 0 where
 
 -- k is refused after h if its time is not finite, or lies below h's newest
 unfoldable pub refusedAfter : Tick → History → ℕ
-refusedAfter k h = refusalOf skipped true true skipped (finite (k .time)) true (not (runsBack (k .time) (previousIn h)))
+refusedAfter k h = timeRefusal (k .time) true (previousIn h)
 
 -- the history once k is accepted: a wiping tick begins a new one
 abbrev pub grown : (Tick → History → Bool) → History → Tick → History
@@ -58,3 +56,27 @@ module _ (A : Account) where
   pub record Wiping (M : Machine) (w : List ℕ) (k : Tick) : Type 0 where
     pub accepted : tickRefusal M (k .time) w ≡ 0
     pub wiping : A .wipesOn k w ≡ true
+
+-- ---- demand 3: a reset wipes the past. Over any further calls, each answer and each word that a call leaves
+module _ (M : Machine) (A : Account) where
+  -- after a wiping tick, whatever the region held before, is what the ticks from that one on say
+  abbrev pub RetoldFromWiping : Type 0
+  RetoldFromWiping = (w : List ℕ) (k : Tick) → Wiping A M w k → (cs : List Call) → run M (wordsAfter M w (updates k)) cs ≡ retold A (wiped k) cs
+
+  -- so it is the same on any two regions that the same tick wipes
+  abbrev pub AlikeFromWiping : Type 0
+  AlikeFromWiping = (v w : List ℕ) (k : Tick) → Wiping A M v k → Wiping A M w k → (cs : List Call)
+      → run M (wordsAfter M v (updates k)) cs ≡ run M (wordsAfter M w (updates k)) cs
+
+  -- two such regions, which differ
+  pub record TwoWiped : Type 0 where
+    pub tick : Tick
+    pub one : List ℕ
+    pub other : List ℕ
+    pub differ : one ≡ other → ⊥
+    pub wipes-one : Wiping A M one tick
+    pub wipes-other : Wiping A M other tick
+
+  -- and from a fresh start it is what the ticks since say
+  abbrev pub RetoldFromStart : Type 0
+  RetoldFromStart = M .accepts ≡ true → (cs : List Call) → run M (M .fresh) cs ≡ retold A started cs

@@ -1,6 +1,6 @@
 -- A hold as the laws of blocks with a state record take it. Assumes nothing.
 use mathlib.Core.Path.{_≡_, refl}
-use mathlib.Core.Bool.{Bool, true}
+use mathlib.Core.Bool.{Bool}
 use mathlib.Core.List.{List, []}
 use Prim.Native.Nat.{ℕ}
 use native.Mathlib.Omega.{arith}
@@ -8,12 +8,12 @@ use lib.ListN.{length}
 use lib.Ieee.{Float, ofBits}
 use Rattle.dynamics.specs.Previous.{previousOf}
 use Rattle.dynamics.specs.Region.{Gives}
-use Rattle.dynamics.specs.Machine.{Machine, startRefusal, tickRefusal, startedWords, decodeRefusal, decodeAnswer, isSound}
+use Rattle.dynamics.specs.Machine.{Machine, startRefusal, tickRefusal, startedWords, decodeRefusal}
 use Rattle.dynamics.specs.Stepped.{machineOf}
 use Rattle.dynamics.specs.declared.call.Inputs.{Inputs}
-use Rattle.dynamics.proofs.Calls.{start-sound}
-use Rattle.dynamics.proofs.Steps.{Enum, Opens, decode-reads}
-use Rattle.hold.specs.Hold.{stateOf, wordsOf, holdOf, bare, opened, zeros, reads}
+use Rattle.dynamics.specs.declared.previous.Previous.the-variants.{Unset}
+use Rattle.dynamics.proofs.Steps.{Enum, Opens}
+use Rattle.hold.specs.Hold.{stateOf, wordsOf, initial, holdOf, bare, opened, zeros, reads}
 use Rattle.hold.specs.declared.State.{State}
 use Rattle.hold.specs.declared.Decoded.{Decoded}
 use Rattle.hold.specs.declared.Decoded.the-variants.{Refused}
@@ -43,9 +43,13 @@ pub counted : (s : State) → length (wordsOf s) ≡ 3
 unfolding wordsOf
 counted s = refl
 
--- holds with settings X
+pub fresh-unset : stateOf (wordsOf initial) .previous ≡ Unset
+unfolding wordsOf stateOf previousOf
+fresh-unset = refl
+
+-- holds with settings X, and bare ones, whose settings are accepted or not
 abbrev pub opens : {X : Type 0} → (X → Bool) → (X → State → Float → Inputs → State) → Opens X State Decoded
-opens accepts advance = record { enum = decoded; block = λ b. holdOf (accepts b) (advance b); counted = λ b s. counted s }
+opens accepts advance = record { enum = decoded; block = λ b. holdOf (accepts b) (advance b); counted = λ b s. counted s; fresh-unset = λ b. fresh-unset }
 
 abbrev pub bares : Opens Bool State Decoded
 bares = opens (λ a. a) (λ a s time i. s)
@@ -53,15 +57,6 @@ bares = opens (λ a. a) (λ a s time i. s)
 module _ (accepts : Bool) (advance : State → Float → Inputs → State) where
   abbrev machine : Machine
   machine = machineOf (holdOf accepts advance)
-
-  -- what decoding answers, in document 01's number and values
-  pub decode-says : (w : List ℕ) → reads (opened (decodeRefusal machine w) w) ≡ decodeAnswer machine stateOf zeros w
-  decode-says w = decode-reads decoded machine stateOf w
-
-  -- a fresh start is sound
-  pub fresh-sound : (w : List ℕ) → startRefusal machine w ≡ 0 → isSound machine (startedWords machine w) ≡ true
-  unfolding machineOf wordsOf stateOf previousOf
-  fresh-sound w z = start-sound machine w refl refl z
 
   -- a hold is started and taken apart as a bare one with the same settings
   module _ {a : Bool} (settings : a ≡ accepts) (w : List ℕ) where

@@ -246,6 +246,19 @@ le-of-not-lt x y h k n = go (le x y) (sym (lt-not-le y x k h) ∙ n)
     go true e = tt
     go false e = absurd (true≢false e)
 
+pub le-not-lt : (x y : Float) → T (le x y) → lt y x ≡ false
+le-not-lt x y l = lt-not-le y x (le-right x y l) (le-left x y l) ∙ go (le x y) l
+  where
+    go : (b : Bool) → T b → not b ≡ false
+    go true t = refl
+
+pub lt-not-ge : (x y : Float) → lt x y ≡ true → le y x ≡ false
+lt-not-ge x y e = go (le y x) (le-not-lt y x)
+  where
+    go : (b : Bool) → (T b → lt x y ≡ false) → b ≡ false
+    go true f = absurd (true≢false (sym e ∙ f tt))
+    go false f = refl
+
 pub finite-number : (x : Float) → T (finite x) → T (number x)
 finite-number (inf s) h = tt
 finite-number (fin s m e) h = tt

@@ -7,8 +7,9 @@ use borrow.Author.Tests.{lt-ltb, le-ltb}
 use lib.Ieee.{Float, nan, inf, fin, binary64, toBits, fits, isNan, nanBits, ne, lt}
 use lib.Ieee.Bits.{ofBits-toBits, toBits-lt, ofBits-fits, toBits-ofBits, nanBits-is, nanBits-above}
 use lib.Ieee.Compare.{differs-from-itself, nan-differs}
+use lib.Ieee.Fits.{round-fits}
 use lib.Ieee.Scale.{finite}
-use Rattle.reals.specs.Words.{realOf, wordOf, canonicalWord, flagOf, wordOfFlag}
+use Rattle.reals.specs.Words.{nearest, realOf, wordOf, canonicalWord, flagOf, wordOfFlag}
 
 -- ---- which patterns and which reals are NaN
 pub nan-of : (x : Float) → isNan x ≡ true → x ≡ nan
@@ -55,6 +56,10 @@ real-fits w = ofBits-fits binary64 w
 word-nan : wordOf nan ≡ 0x7ff8_0000_0000_0000
 unfolding toBits
 word-nan = refl
+
+-- a decimal names an f64
+pub nearest-fits : (a b : ℕ) → T (fits binary64 (nearest a b))
+nearest-fits a b = round-fits binary64 false a b
 
 -- the canonical word is what the word's meaning is stored as
 pub canonical-is : (w : ℕ) → w < 2 ^ 64 → wordOf (realOf w) ≡ canonicalWord w

@@ -1,17 +1,14 @@
 -- `TrueDelay` as the laws of blocks with a state record take it. Assumes nothing.
 use mathlib.Core.Path.{_≡_, refl}
-use mathlib.Core.Bool.{true}
-use mathlib.Core.List.{List, []}
+use mathlib.Core.List.{[]}
 use Prim.Native.Nat.{ℕ}
 use native.Mathlib.Omega.{arith}
 use lib.ListN.{length}
 use lib.Ieee.{ofBits}
 use Rattle.dynamics.specs.Previous.{previousOf}
-use Rattle.dynamics.specs.Machine.{startRefusal, startedWords, decodeRefusal, decodeAnswer, isSound}
-use Rattle.dynamics.specs.Stepped.{machineOf}
-use Rattle.dynamics.proofs.Calls.{start-sound}
-use Rattle.dynamics.proofs.Steps.{Enum, Opens, decode-reads}
-use Rattle.true_delay.specs.TrueDelay.{stateOf, wordsOf, block, machine, opened, zeros, reads}
+use Rattle.dynamics.specs.declared.previous.Previous.the-variants.{Unset}
+use Rattle.dynamics.proofs.Steps.{Enum, Opens}
+use Rattle.true_delay.specs.TrueDelay.{stateOf, wordsOf, initial, block, zeros, reads}
 use Rattle.true_delay.specs.declared.TrueDelay.{TrueDelay}
 use Rattle.true_delay.specs.declared.state.State.{State}
 use Rattle.true_delay.specs.declared.state.Decoded.{Decoded}
@@ -42,14 +39,9 @@ pub counted : (b : TrueDelay) (s : State) → length (wordsOf s) ≡ 4
 unfolding wordsOf
 counted b s = refl
 
+pub fresh-unset : (b : TrueDelay) → stateOf (wordsOf (initial)) .previous ≡ Unset
+unfolding wordsOf stateOf previousOf
+fresh-unset b = refl
+
 abbrev pub timer : Opens TrueDelay State Decoded
-timer = record { enum = decoded; block = block; counted = counted }
-
--- what decoding answers, in document 01's number and values
-pub decode-says : (b : TrueDelay) (w : List ℕ) → reads (opened (decodeRefusal (machine b) w) w) ≡ decodeAnswer (machine b) stateOf zeros w
-decode-says b w = decode-reads decoded (machine b) stateOf w
-
--- a fresh start is sound
-pub fresh-sound : (b : TrueDelay) (w : List ℕ) → startRefusal (machine b) w ≡ 0 → isSound (machine b) (startedWords (machine b) w) ≡ true
-unfolding machineOf wordsOf stateOf previousOf
-fresh-sound b w z = start-sound (machine b) w refl refl z
+timer = record { enum = decoded; block = block; counted = counted; fresh-unset = fresh-unset }

@@ -4,53 +4,31 @@ use mathlib.Core.Bool.{false}
 use mathlib.Core.List.{List, [], _∷_}
 use Prim.Native.Nat.{ℕ}
 use native.Mathlib.Omega.{arith}
-use lib.Dec.{T}
 use lib.ListN.{getD}
-use lib.Ieee.{Float, binary64, fits, round, ofBits, lt}
-use lib.Ieee.Fits.{round-fits}
+use lib.Ieee.{round, ofBits, toBits, lt, le}
 use Rattle.reals.specs.Words.{nearest}
+use Rattle.reals.proofs.Words.{nearest-fits}
 use Rattle.dynamics.specs.Previous.{previousOf}
 use Rattle.dynamics.specs.Answer.{refusalOf}
-use Rattle.dynamics.specs.Machine.{Tick, Call, updates, tickRefusal, wordsAfter, run}
+use Rattle.dynamics.specs.Machine.{tickRefusal}
 use Rattle.dynamics.specs.Stepped.{machineOf}
-use Rattle.dynamics.specs.History.{Wiping}
+use Rattle.dynamics.specs.History.{TwoWiped}
 use Rattle.true_delay.specs.TrueDelay.{machine, initial, stateOf, wordsOf}
 use Rattle.true_delay.specs.Account.{account}
 use Rattle.true_delay.specs.declared.TrueDelay.{TrueDelay}
-use Rattle.true_delay.proofs.Wiping.{wiped-alike}
 
-abbrev seconds : ℕ → Float
-seconds n = nearest n 1
+-- a delay of two seconds
+abbrev two-seconds : TrueDelay
+two-seconds = record { «delay_time» = nearest 2 1; «delay_on_init» = false }
 
-seconds-fit : (n : ℕ) → T (fits binary64 (seconds n))
-seconds-fit n = round-fits binary64 false n 1
-
--- two seconds; a tick at 1.0 whose input is false
-delay : TrueDelay
-delay = record { «delay_time» = seconds 2; «delay_on_init» = false }
-
-wiping-tick : Tick
-wiping-tick = record { time = seconds 1; is-f64 = seconds-fit 1; inputs = record { first = 0; second = 0; third = 0 } }
-
-fresh : List ℕ
-fresh = wordsOf initial
-
--- a timer that is no number, a previous time just above zero, an input and a held that are neither 0 nor 1
-garbage : List ℕ
-garbage = 0x7ff0_0000_dead_beef ∷ 0x0000_0000_dead_beef ∷ 0xdead_beef ∷ 7 ∷ []
-
-fresh-wiped : Wiping (account delay) (machine delay) fresh wiping-tick
-unfolding delay wiping-tick fresh wordsOf stateOf machineOf tickRefusal refusalOf previousOf round
-fresh-wiped = record { accepted = refl; wiping = refl }
-
-garbage-wiped : Wiping (account delay) (machine delay) garbage wiping-tick
-unfolding delay wiping-tick garbage stateOf machineOf tickRefusal refusalOf previousOf round lt ofBits
-garbage-wiped = record { accepted = refl; wiping = refl }
-
-differ : fresh ≡ garbage → ⊥
-unfolding fresh garbage wordsOf
-differ e = let z : _≡_ {A = ℕ} 0 0xdead_beef = ap (λ (w : List ℕ). getD w 2 0) e in omega arith
-
-both-alike : (cs : List Call) → run (machine delay) (wordsAfter (machine delay) fresh (updates wiping-tick)) cs ≡ run (machine delay) (wordsAfter (machine delay) garbage (updates wiping-tick)) cs
-unfolding delay
-both-alike = wiped-alike delay (seconds-fit 2) fresh garbage wiping-tick fresh-wiped garbage-wiped
+-- the tick is at 1.0, its input is false; the garbage is a timer that is no number, a previous time just above zero, an input and a held that are neither 0 nor 1
+pub both-wiped : TwoWiped (machine two-seconds) (account two-seconds)
+unfolding wordsOf stateOf machineOf tickRefusal refusalOf previousOf round lt le ofBits toBits
+both-wiped = record {
+  tick = record { time = nearest 1 1; is-f64 = nearest-fits 1 1; inputs = record { first = 0; second = 0; third = 0 } };
+  one = wordsOf initial;
+  other = 0x7ff0_0000_dead_beef ∷ 0x0000_0000_dead_beef ∷ 0xdead_beef ∷ 7 ∷ [];
+  differ = λ e. let z : _≡_ {A = ℕ} 0 0xdead_beef = ap (λ (w : List ℕ). getD w 2 0) e in omega arith;
+  wipes-one = record { accepted = refl; wiping = refl };
+  wipes-other = record { accepted = refl; wiping = refl };
+}

@@ -5,30 +5,24 @@ use mathlib.Core.List.{List}
 use Prim.Native.Nat.{ℕ}
 use borrow.Author.Tests.{not-true}
 use lib.Dec.{T}
-use lib.Ieee.{Float, nan, inf, fin, binary64, fits, add, lt, le}
+use lib.Ieee.{Float, binary64, fits, add, lt, le}
 use lib.Ieee.Bits.{is-true}
 use lib.Ieee.Fits.{add-fits}
 use lib.Ieee.Scale.{finite}
 use Rattle.reals.specs.Words.{0·0}
 use Rattle.reals.proofs.Words.{flag-back, real-word}
-use Rattle.reals.proofs.Order.{lt-not-le}
+use Rattle.reals.proofs.Order.{lt-not-ge}
 use Rattle.dynamics.specs.Previous.{soundPrevious, gap, isFirst}
 use Rattle.dynamics.specs.Leaves.{positiveDuration, timed}
-use Rattle.dynamics.specs.Machine.{Tick, Call, updates, wordsAfter, run}
+use Rattle.dynamics.specs.Machine.{Tick}
 use Rattle.dynamics.specs.Stepped.{machineOf}
-use Rattle.dynamics.specs.History.{History, started, wiped, followed, previousIn, refusedAfter, grown, retold, Wiping}
+use Rattle.dynamics.specs.History.{History, started, wiped, followed, previousIn, refusedAfter, grown, RetoldFromWiping, AlikeFromWiping, RetoldFromStart}
 use Rattle.dynamics.specs.declared.previous.Previous.the-variants.{Unset, At}
 use Rattle.dynamics.proofs.Gaps.{zero-nonneg, zero-f64, either, sum-nonneg, sum-keeps}
 use Rattle.dynamics.proofs.Histories.{Kept, forward, newest-grown, time-back, from-wiping, from-start, alike}
-use Rattle.true_delay.specs.TrueDelay.{machine, settingsAccepted, outputAndTimer, next, advance, stateOf, wordsOf, outputs}
+use Rattle.true_delay.specs.TrueDelay.{machine, outputAndTimer, next, advance, stateOf, wordsOf, outputs}
 use Rattle.true_delay.specs.Account.{inputOf, inputIn, wipes, sum, delay, atOnce, passes, timer, stateAfter, account}
 use Rattle.true_delay.specs.declared.TrueDelay.{TrueDelay}
-
--- what is above 0.0 is not below it
-above : (x : Float) → lt 0·0 x ≡ true → le x 0·0 ≡ false
-above nan e = unfold le in refl
-above (inf s) e = not-true (le (inf s) 0·0) (sym (lt-not-le 0·0 (inf s) tt tt) ∙ e)
-above (fin s m n) e = not-true (le (fin s m n) 0·0) (sym (lt-not-le 0·0 (fin s m n) tt tt) ∙ e)
 
 -- The first tick: u is its input, i the setting delay_on_init, x the setting delay_time.
 first : (u i : Bool) (x : Float)
@@ -40,7 +34,7 @@ first true true x = unfold positiveDuration in go (lt 0·0 x) refl
   where
     go : (p : Bool) → lt 0·0 x ≡ p
         → cond (lt 0·0 (cond p x 0·0)) (timed false 0·0) (timed true (cond p x 0·0)) ≡ timed (le (cond p x 0·0) 0·0) 0·0
-    go true e = simp (e, above x e)
+    go true e = simp (e, lt-not-ge 0·0 x e)
     go false e = unfold lt le in refl
 
 -- A later tick: u and v are its input and the one before, a whether it passes at once, d the delay, x the sum before, t the stored
@@ -185,17 +179,11 @@ module _ (b : TrueDelay) (is-f64 : T (fits binary64 (b .«delay_time»))) where
     good = good-next;
   }
 
-  -- after a wiping tick, whatever the region held before, each further call answers and leaves what the history from that tick on says
-  pub told : (w : List ℕ) (k : Tick) → Wiping (account b) (machine b) w k → (cs : List Call)
-      → run (machine b) (wordsAfter (machine b) w (updates k)) cs ≡ retold (account b) (wiped k) cs
+  pub told : RetoldFromWiping (machine b) (account b)
   told = from-wiping (machine b) (account b) Good kept
 
-  -- so any two regions that it meets are alike from then on
-  pub wiped-alike : (v w : List ℕ) (k : Tick) → Wiping (account b) (machine b) v k → Wiping (account b) (machine b) w k → (cs : List Call)
-      → run (machine b) (wordsAfter (machine b) v (updates k)) cs ≡ run (machine b) (wordsAfter (machine b) w (updates k)) cs
+  pub wiped-alike : AlikeFromWiping (machine b) (account b)
   wiped-alike = alike (machine b) (account b) Good kept
 
-  -- and from a start on, which ends the history
-  pub told-from-start : settingsAccepted b ≡ true → (cs : List Call) → run (machine b) (machine b .fresh) cs ≡ retold (account b) started cs
-  unfolding machineOf
-  told-from-start f = from-start (machine b) (account b) Good kept f
+  pub told-from-start : RetoldFromStart (machine b) (account b)
+  told-from-start = from-start (machine b) (account b) Good kept

@@ -10,15 +10,15 @@ use Rattle.reals.specs.Words.{0·0}
 use Rattle.reals.proofs.Words.{flag-back, real-word}
 use Rattle.dynamics.specs.Previous.{soundPrevious, gap, isFirst}
 use Rattle.dynamics.specs.Leaves.{positiveDuration, timed}
-use Rattle.dynamics.specs.Machine.{Tick, Call, updates, wordsAfter, run}
+use Rattle.dynamics.specs.Machine.{Tick}
 use Rattle.dynamics.specs.Stepped.{machineOf}
-use Rattle.dynamics.specs.History.{History, started, wiped, followed, previousIn, refusedAfter, grown, retold, Wiping}
+use Rattle.dynamics.specs.History.{History, started, wiped, followed, previousIn, refusedAfter, grown, RetoldFromWiping, AlikeFromWiping, RetoldFromStart}
 use Rattle.dynamics.specs.declared.leaf.Timed.{Timed}
 use Rattle.dynamics.specs.declared.previous.Previous.the-variants.{Unset, At}
 use Rattle.dynamics.proofs.Gaps.{zero-nonneg, zero-f64, either, sum-nonneg}
 use Rattle.dynamics.proofs.Histories.{Kept, newest-grown, time-back, grown-sound, from-wiping, from-start, alike}
 use Rattle.hold.specs.Hold.{stateOf, wordsOf, outputs}
-use Rattle.true_hold_with_reset.specs.TrueHoldWithReset.{machine, settingsAccepted, runTime, holds, outputAndTimer, next, advance}
+use Rattle.true_hold_with_reset.specs.TrueHoldWithReset.{machine, runTime, holds, outputAndTimer, next, advance}
 use Rattle.true_hold_with_reset.specs.Account.{Run, inputOf, clearOf, wipes, onward, hold, stateAfter, account}
 use Rattle.true_hold_with_reset.specs.declared.TrueHoldWithReset.{TrueHoldWithReset}
 use Rattle.true_hold_with_reset.proofs.Durations.{below-positive}
@@ -134,17 +134,11 @@ module _ (b : TrueHoldWithReset) where
     good = good-next;
   }
 
-  -- after a wiping tick, whatever the region held before, each further call answers and leaves what the history from that tick on says
-  pub told : (w : List ℕ) (k : Tick) → Wiping (account b) (machine b) w k → (cs : List Call)
-      → run (machine b) (wordsAfter (machine b) w (updates k)) cs ≡ retold (account b) (wiped k) cs
+  pub told : RetoldFromWiping (machine b) (account b)
   told = from-wiping (machine b) (account b) Good kept
 
-  -- so any two regions that it meets are alike from then on
-  pub wiped-alike : (v w : List ℕ) (k : Tick) → Wiping (account b) (machine b) v k → Wiping (account b) (machine b) w k → (cs : List Call)
-      → run (machine b) (wordsAfter (machine b) v (updates k)) cs ≡ run (machine b) (wordsAfter (machine b) w (updates k)) cs
+  pub wiped-alike : AlikeFromWiping (machine b) (account b)
   wiped-alike = alike (machine b) (account b) Good kept
 
-  -- and from a start on, which ends the history
-  pub told-from-start : settingsAccepted b ≡ true → (cs : List Call) → run (machine b) (machine b .fresh) cs ≡ retold (account b) started cs
-  unfolding machineOf
-  told-from-start f = from-start (machine b) (account b) Good kept f
+  pub told-from-start : RetoldFromStart (machine b) (account b)
+  told-from-start = from-start (machine b) (account b) Good kept

@@ -43,6 +43,7 @@ pub counted : (s : State) → length (wordsOf s) ≡ 3
 unfolding wordsOf
 counted s = refl
 
+-- a fresh one is read back with its previous time unset
 pub fresh-unset : stateOf (wordsOf initial) .previous ≡ Unset
 unfolding wordsOf stateOf previousOf
 fresh-unset = refl

@@ -39,6 +39,7 @@ pub counted : (b : TimerAccumulating) (s : State) → length (wordsOf s) ≡ 5
 unfolding wordsOf
 counted b s = refl
 
+-- a fresh one is read back with its previous time unset
 pub fresh-unset : (b : TimerAccumulating) → stateOf (wordsOf (initial b)) .previous ≡ Unset
 unfolding wordsOf stateOf previousOf
 fresh-unset b = refl

@@ -39,6 +39,7 @@ pub counted : (b : TrueDelay) (s : State) → length (wordsOf s) ≡ 4
 unfolding wordsOf
 counted b s = refl
 
+-- a fresh one is read back with its previous time unset
 pub fresh-unset : (b : TrueDelay) → stateOf (wordsOf (initial)) .previous ≡ Unset
 unfolding wordsOf stateOf previousOf
 fresh-unset b = refl

@@ -1,18 +1,19 @@
 -- The small steps that blocks share. Definitions only.
 use mathlib.Core.Bool.{Bool, true, false, cond}
-use lib.Ieee.{Float, binary64, add, mul, div, lt}
+use lib.Ieee.{Float, lt}
 use Rattle.reals.specs.Words.{0·0, 1·0}
+use Rattle.reals.specs.Arithmetic.{_⊕_, _⊗_, _⊘_}
 use Rattle.dynamics.specs.declared.leaf.Timed.{Timed}
 
 -- x + (rate * gap)
 unfoldable pub accumulated : Float → Float → Float → Float
-accumulated x rate gap = add binary64 x (mul binary64 rate gap)
+accumulated x rate gap = x ⊕ (rate ⊗ gap)
 
 -- with a = gap / T: (x + (a * u)) / (1 + a)
 unfoldable pub filtered : Float → Float → Float → Float → Float
 filtered x u T gap =
-    let a = div binary64 gap T in
-    div binary64 (add binary64 x (mul binary64 a u)) (add binary64 1·0 a)
+    let a = gap ⊘ T in
+    (x ⊕ (a ⊗ u)) ⊘ (1·0 ⊕ a)
 
 -- itself if above 0, else +0.0; so a NaN is +0.0
 unfoldable pub positiveDuration : Float → Float

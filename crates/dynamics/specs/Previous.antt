@@ -2,9 +2,10 @@
 use Prim.Native.Nat.{ℕ}
 use mathlib.Core.Bool.{Bool, true, false, cond}
 use lib.Dec.{eqb}
-use lib.Ieee.{Float, binary64, sub, lt}
+use lib.Ieee.{Float, lt}
 use lib.Ieee.Scale.{finite}
 use Rattle.reals.specs.Words.{0·0, realOf, wordOf}
+use Rattle.reals.specs.Arithmetic.{_⊖_}
 use Rattle.dynamics.specs.declared.previous.Previous.{Previous}
 use Rattle.dynamics.specs.declared.previous.Previous.the-variants.{Unset, At}
 
@@ -31,7 +32,7 @@ isFirst (At p) = false
 -- the time since: 0.0 when previous time is unset, else time minus previous, one rounding
 abbrev pub gap : Float → Previous → Float
 gap t Unset = 0·0
-gap t (At p) = sub binary64 t p
+gap t (At p) = t ⊖ p
 
 -- the time lies below a set previous time
 abbrev pub runsBack : Float → Previous → Bool

@@ -8,7 +8,7 @@ use native.Mathlib.Omega.{arith}
 use mathlib.Core.Bool.{Bool, true, false, not, _&&_, _||_, true≢false}
 use lib.Dec.{T, ltb, eqb, ltb→lt, lt→ltb, eqb→eq, T-not, not-T}
 use lib.IntN.{ℤ}
-use lib.Ieee.{Float, nan, inf, fin, up, down, below, level, lt, le}
+use lib.Ieee.{Float, nan, inf, fin, up, down, below, level, lt, le, isNan}
 use lib.Ieee.Fits.{down-pos, and-i, and-l, and-r, eq→eqb}
 use lib.Ieee.Scale.{finite}
 use Rattle.reals.proofs.Values.{agree}
@@ -128,6 +128,26 @@ le-right (inf s) nan h = h
 le-right (fin s m e) nan h = h
 le-right x (inf t) h = tt
 le-right x (fin t n d) h = tt
+
+pub lt-left : (x y : Float) → T (lt x y) → T (number x)
+unfolding lt
+lt-left nan y h = h
+lt-left (inf s) y h = tt
+lt-left (fin s m e) y h = tt
+
+pub lt-right : (x y : Float) → T (lt x y) → T (number y)
+unfolding lt
+lt-right nan nan h = h
+lt-right (inf s) nan h = h
+lt-right (fin s m e) nan h = h
+lt-right x (inf t) h = tt
+lt-right x (fin t n d) h = tt
+
+pub not-nan : (x : Float) → isNan x ≡ false → T (number x)
+unfolding isNan
+not-nan nan e = absurd (true≢false e)
+not-nan (inf s) e = tt
+not-nan (fin s m e) h = tt
 
 Le-same : (s : Bool) (a : ℕ) → Le s a s a
 Le-same false a = le-refl a
@@ -262,3 +282,10 @@ lt-not-ge x y e = go (le y x) (le-not-lt y x)
 pub finite-number : (x : Float) → T (finite x) → T (number x)
 finite-number (inf s) h = tt
 finite-number (fin s m e) h = tt
+
+-- what lies below another is not above it
+pub against : (x y : Float) → T (lt x y) → T (le y x) → ⊥
+against x y l g = rw (le-not-lt y x g) at l
+
+pub lt-le : (x y : Float) → T (lt x y) → T (le x y)
+lt-le x y l = elim (le-total x y (lt-left x y l) (lt-right x y l)) [ inl h ↦ h | inr h ↦ absurd (against x y l h) ]

@@ -1,8 +1,9 @@
 -- `TimerAccumulating` told from its history: the accepted ticks since the latest start or rising reset. Definitions only.
 use mathlib.Core.Bool.{Bool, false, _&&_, cond}
 use lib.ListN.{getD}
-use lib.Ieee.{Float, binary64, add, le}
+use lib.Ieee.{Float, le}
 use Rattle.reals.specs.Words.{0·0, flagOf}
+use Rattle.reals.specs.Arithmetic.{_⊕_}
 use Rattle.dynamics.specs.Previous.{gap}
 use Rattle.dynamics.specs.Leaves.{rising}
 use Rattle.dynamics.specs.Machine.{Tick}
@@ -33,7 +34,7 @@ wipes k h = rising (resetOf k) (resetIn h)
 unfoldable pub total : History → Float
 total started = 0·0
 total (wiped k) = 0·0
-total (followed h k) = cond (inputIn h && inputOf k) (add binary64 (total h) (gap (k .time) (previousIn h))) (total h)
+total (followed h k) = cond (inputIn h && inputOf k) (total h ⊕ gap (k .time) (previousIn h)) (total h)
 
 module _ (b : TimerAccumulating) where
   -- passed is sum >= t

@@ -3,9 +3,10 @@ use Prim.Native.Nat.{ℕ}
 use mathlib.Core.Bool.{Bool, true, false, not, _&&_, cond}
 use mathlib.Core.List.{List, [], _∷_}
 use lib.ListN.{getD}
-use lib.Ieee.{Float, binary64, add, le}
+use lib.Ieee.{Float, le}
 use lib.Ieee.Scale.{finite}
 use Rattle.reals.specs.Words.{0·0, realOf, wordOf, flagOf, wordOfFlag}
+use Rattle.reals.specs.Arithmetic.{_⊕_}
 use Rattle.dynamics.specs.Previous.{previousOf, wordOfPrevious, gap, isFirst}
 use Rattle.dynamics.specs.Leaves.{rising}
 use Rattle.dynamics.specs.Answer.{Outputs, bothOutputs}
@@ -29,7 +30,7 @@ counts s input = not (isFirst (s .previous)) && (s .input && input)
 unfoldable pub yNow : State → Float → Bool → Bool → Float
 yNow s time input wipes =
     cond wipes 0·0
-    (cond (counts s input) (add binary64 (s .total) (gap time (s .previous)))
+    (cond (counts s input) (s .total ⊕ gap time (s .previous))
     (s .total))
 
 -- `passed_now`: a wiping tick and a rising input sample the total, reaching t sets it, else it holds

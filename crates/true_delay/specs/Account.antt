@@ -1,7 +1,8 @@
 -- `TrueDelay` told from its history: the accepted ticks since the latest start or false input. Definitions only.
 use mathlib.Core.Bool.{Bool, false, not, _&&_, _||_, cond}
-use lib.Ieee.{Float, binary64, add, le}
+use lib.Ieee.{Float, le}
 use Rattle.reals.specs.Words.{0·0, flagOf}
+use Rattle.reals.specs.Arithmetic.{_⊕_}
 use Rattle.dynamics.specs.Previous.{gap}
 use Rattle.dynamics.specs.Leaves.{positiveDuration}
 use Rattle.dynamics.specs.Machine.{Tick}
@@ -26,7 +27,7 @@ wipes k h = not (inputOf k)
 unfoldable pub sum : History → Float
 sum started = 0·0
 sum (wiped k) = 0·0
-sum (followed h k) = cond (inputIn h) (add binary64 (sum h) (gap (k .time) (previousIn h))) 0·0
+sum (followed h k) = cond (inputIn h) (sum h ⊕ gap (k .time) (previousIn h)) 0·0
 
 module _ (b : TrueDelay) where
   abbrev pub delay : Float

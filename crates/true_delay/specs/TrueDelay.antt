@@ -3,9 +3,10 @@ use Prim.Native.Nat.{ℕ}
 use mathlib.Core.Bool.{Bool, true, false, not, _&&_, cond}
 use mathlib.Core.List.{List, [], _∷_}
 use lib.ListN.{getD}
-use lib.Ieee.{Float, binary64, add, lt, le}
+use lib.Ieee.{Float, lt, le}
 use lib.Ieee.Scale.{finite}
 use Rattle.reals.specs.Words.{0·0, realOf, wordOf, flagOf, wordOfFlag}
+use Rattle.reals.specs.Arithmetic.{_⊕_}
 use Rattle.dynamics.specs.Previous.{previousOf, wordOfPrevious, gap, isFirst}
 use Rattle.dynamics.specs.Leaves.{positiveDuration, timed}
 use Rattle.dynamics.specs.Answer.{Outputs, booleanOutput}
@@ -30,7 +31,7 @@ waits b delay = b .«delay_on_init» && lt 0·0 delay
 unfoldable pub outputAndTimer : TrueDelay → State → Float → Bool → Timed
 outputAndTimer b s time input =
     let delay = positiveDuration (b .«delay_time») in
-    let timer = add binary64 (s .timer) (gap time (s .previous)) in
+    let timer = s .timer ⊕ gap time (s .previous) in
     cond (not input) (timed false 0·0)
     (cond (isFirst (s .previous)) (cond (waits b delay) (timed false 0·0) (timed true delay))
     (cond (s .held) (timed true delay)

@@ -1,8 +1,9 @@
 -- `TrueFalseHold`: each value of the output lasts for a least time. Definitions only.
 use mathlib.Core.Bool.{Bool, not, _&&_, Bool·beq, cond}
-use lib.Ieee.{Float, binary64, add, le}
+use lib.Ieee.{Float, le}
 use lib.Ieee.Scale.{finite}
 use Rattle.reals.specs.Words.{0·0, flagOf}
+use Rattle.reals.specs.Arithmetic.{_⊕_}
 use Rattle.dynamics.specs.Previous.{gap, isFirst}
 use Rattle.dynamics.specs.Leaves.{positiveDuration, timed}
 use Rattle.dynamics.specs.Machine.{Machine}
@@ -22,7 +23,7 @@ required b held = cond held (positiveDuration (b .«true_hold_duration»)) (posi
 
 -- stored timer + gap
 abbrev pub lasted : State → Float → Float
-lasted s time = add binary64 (s .timer) (gap time (s .previous))
+lasted s time = s .timer ⊕ gap time (s .previous)
 
 -- the input differs from the output, and stored timer + gap >= the positive duration of the present output
 unfoldable pub flips : TrueFalseHold → State → Float → Bool → Bool

@@ -1,7 +1,8 @@
 -- `TrueHoldWithReset` told from its history: the accepted ticks since the latest start or true clear. Definitions only.
 use mathlib.Core.Bool.{Bool, false, _&&_, _||_, cond}
-use lib.Ieee.{Float, binary64, add, lt}
+use lib.Ieee.{Float, lt}
 use Rattle.reals.specs.Words.{0·0, flagOf}
+use Rattle.reals.specs.Arithmetic.{_⊕_}
 use Rattle.dynamics.specs.Previous.{gap}
 use Rattle.dynamics.specs.Machine.{Tick}
 use Rattle.dynamics.specs.History.{History, started, wiped, followed, previousIn, Account, grown}
@@ -29,7 +30,7 @@ module _ (b : TrueHoldWithReset) where
   -- one tick more: true when its input is, or when the hold was true one tick before and the sum is below the duration
   unfoldable pub onward : Run → Float → Bool → Run
   onward before since input =
-      let sum = cond (before .on) (add binary64 (before .sum) since) 0·0 in
+      let sum = cond (before .on) (before .sum ⊕ since) 0·0 in
       record { on = input || (before .on && lt sum (b .duration)); sum = sum }
 
   -- false on a wiping tick

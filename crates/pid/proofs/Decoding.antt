@@ -1,0 +1,72 @@
+-- The controllers as the laws of blocks with a state record take them. Assumes nothing.
+use mathlib.Core.Path.{_≡_, refl}
+use mathlib.Core.Bool.{Bool, true, false}
+use mathlib.Core.List.{List, [], _∷_}
+use Prim.Native.Nat.{ℕ}
+use native.Mathlib.Omega.{arith}
+use lib.ListN.{length}
+use borrow.Author.Tests.{ne-eqb}
+use lib.Ieee.{ofBits}
+use Rattle.dynamics.specs.Previous.{previousOf}
+use Rattle.dynamics.specs.Region.{stored}
+use Rattle.dynamics.specs.declared.previous.Previous.the-variants.{Unset}
+use Rattle.dynamics.proofs.Steps.{Enum, Opens}
+use Rattle.controller.specs.declared.config.ControllerType.{ControllerType}
+use Rattle.controller.specs.declared.config.ControllerType.the-variants.{P, Pi, Pd, Pid}
+use Rattle.controller.specs.declared.config.ControllerConfig.{ControllerConfig}
+use Rattle.controller.specs.declared.recurrence.State.{State}
+use Rattle.pid.specs.Pid.{stateLength, stateOf, wordsOf, initial, block, zeros, reads}
+use Rattle.pid.specs.declared.state.Decoded.{Decoded}
+use Rattle.pid.specs.declared.state.Decoded.the-variants.{Refused}
+use Rattle.pid.specs.declared.state.Decoded.the-variants as variant
+
+pub apart : (s : State) (n : ℕ) → variant.State s ≡ Refused n → ⊥
+apart s n e = let z : _≡_ {A = ℕ} 0 1 = cc in omega arith
+
+-- the record of zeros is what words of 0 mean to the type that keeps all
+pub zeros-mean : stateOf Pid true [] ≡ zeros
+unfolding stateOf previousOf ofBits
+zeros-mean = refl
+
+abbrev pub decoded : Enum State Decoded
+decoded = record {
+  state = variant.State;
+  refused = Refused;
+  zeros = zeros;
+  reads = reads;
+  reads-state = λ s. refl;
+  reads-refused = λ n. refl;
+  apart = apart;
+}
+
+-- a state has as many words as its type keeps
+pub counted : (t : ControllerType) (reset : Bool) (s : State) → length (wordsOf t reset s) ≡ stateLength t reset
+unfolding wordsOf
+counted P reset s = refl
+counted Pi true s = refl
+counted Pi false s = refl
+counted Pd reset s = refl
+counted Pid true s = refl
+counted Pid false s = refl
+
+-- a fresh one is read back with its previous time unset
+pub fresh-unset : (t : ControllerType) (reset : Bool) (b : ControllerConfig) → stateOf t reset (wordsOf t reset (initial b)) .previous ≡ Unset
+unfolding wordsOf stateOf previousOf
+fresh-unset P reset b = refl
+fresh-unset Pi reset b = refl
+fresh-unset Pd reset b = refl
+fresh-unset Pid reset b = refl
+
+-- with or without reset
+abbrev pub controller : Bool → Opens ControllerConfig State Decoded
+controller reset = record {
+  enum = decoded;
+  block = block reset;
+  counted = λ b s. counted (b .«controller_type») reset s;
+  fresh-unset = λ b. fresh-unset (b .«controller_type») reset b;
+}
+
+-- no words are stored by doing nothing
+pub none-stored : (w : List ℕ) → w ≡ stored w []
+none-stored [] = refl
+none-stored (x ∷ w) = simp (ne-eqb (length (x ∷ w)) 0 (λ z. omega arith))

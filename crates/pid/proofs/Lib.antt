@@ -1,0 +1,6 @@
+pub mod Decoding
+pub mod Steps
+pub mod Wiping
+pub mod TwoRegions
+pub mod OneResult
+pub mod Outputs

@@ -5,7 +5,7 @@ use dynamics::Length;
 use reals::word_of;
 use reals::word_of_flag;
 ghost use mathlib.Core.Path.{_≡_};
-ghost use Rattle.exports.specs.Boundary.{answerWords, lengthWords, oneInput, twoInputs};
+ghost use Rattle.exports.specs.Boundary.{answerWords, lengthWords, oneInput, twoInputs, threeInputs};
 
 // The refusal number, the real's bits, and the two booleans as 0 or 1.
 #[repr(C)]
@@ -64,5 +64,16 @@ pub fn two_inputs(first: u64, second: u64) -> Inputs
         first,
         second,
         third: 0,
+    }
+}
+
+// What a tick brings to a block with three inputs.
+pub fn three_inputs(first: u64, second: u64, third: u64) -> Inputs
+    ensures { λ r. ⌜ r ≡ threeInputs first second third ⌝ }
+{
+    Inputs {
+        first,
+        second,
+        third,
     }
 }

@@ -48,6 +48,9 @@ fn run(subject: &Calls, kind: Kind, r: &mut Rng, tally: &mut Tally) {
     if r.one_in(4) {
         run.start();
     }
+    if r.one_in(64) {
+        run.set_far_back();
+    }
     run.sound();
     for _ in 0..TICKS {
         run.time = inputs::tick_time(r, kind, &run.settings, &run.region);
@@ -129,6 +132,14 @@ impl Run<'_> {
         self.expect("start", got, due);
         self.expect_words("start", &mine, &theirs);
         self.region = theirs;
+    }
+
+    /// Puts the previous time so far back that the gap to a large time is infinite.
+    fn set_far_back(&mut self) {
+        let place = self.kind.time_place(&self.settings);
+        if let Some(word) = place.and_then(|n| self.region.get_mut(n)) {
+            *word = f64::MIN.to_bits();
+        }
     }
 
     fn sound(&mut self) {

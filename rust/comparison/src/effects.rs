@@ -9,14 +9,70 @@ pub fn effects(kind: Kind, s: &[u64], inputs: &[u64], before: &[u64], after: &[u
     if kind == Kind::MovingAverage {
         classes = ring_effects((before[3], before[4]), after);
     }
-    let previous = kind.time_place(s).map(|n| before[n]);
-    if previous == Some(UNSET) {
-        classes.push(Class::FirstTick);
+    let times = kind.time_place(s).map(|n| (before[n], after[n]));
+    let first = times.is_some_and(|(previous, _)| previous == UNSET);
+    let wiping = is_wiping(kind, s, inputs, before);
+    if kind.is_controller() {
+        classes.extend(met(controller_tick(s, inputs)));
+        if first {
+            classes.extend(met(controller_start(s, before)));
+        }
+        if wiping {
+            classes.extend(met(controller_reset(s, before)));
+        }
     }
-    if is_wiping(kind, s, inputs, before) {
-        classes.push(Class::Wiping);
-    }
+    let gap = times.map(|(previous, time)| f64::from_bits(time) - f64::from_bits(previous));
+    let infinite = !first && gap.is_some_and(f64::is_infinite);
+    classes.extend(met([
+        (Class::FirstTick, first),
+        (Class::InfiniteGap, infinite),
+        (Class::Wiping, wiping),
+    ]));
     classes
+}
+
+/// The classes that are met.
+fn met<const N: usize>(classes: [(Class, bool); N]) -> impl Iterator<Item = Class> {
+    let met = classes.into_iter().filter(|(_, is_met)| *is_met);
+    met.map(|(class, _)| class)
+}
+
+const ZERO: u64 = 0;
+const MINUS_ZERO: u64 = 1 << 63;
+
+/// What a controller's tick meets by its settings and inputs.
+fn controller_tick(s: &[u64], inputs: &[u64]) -> [(Class, bool); 5] {
+    let real = |n: usize| f64::from_bits(s[n]);
+    let difference = f64::from_bits(inputs[0]) - f64::from_bits(inputs[1]);
+    [
+        (Class::Type(s[0]), true),
+        (Class::EqualInputs, s[12] == 0 && difference == 0.0),
+        (Class::CrossedLimits, real(6) > real(5)),
+        (Class::ZeroSetting(false), s[1..12].contains(&ZERO)),
+        (Class::ZeroSetting(true), s[1..12].contains(&MINUS_ZERO)),
+    ]
+}
+
+/// What a controller's first tick meets; one without I and D has none.
+fn controller_start(s: &[u64], before: &[u64]) -> [(Class, bool); 4] {
+    let real = |n: usize| f64::from_bits(s[n]);
+    let (with_i, with_d) = (s[0] & 1 == 1, s[0] & 2 == 2);
+    let gain = real(1).max(1e-13) * real(3).max(1e-13);
+    [
+        (Class::ZeroStart(false), with_i && before[0] == ZERO),
+        (Class::ZeroStart(true), with_i && before[0] == MINUS_ZERO),
+        (Class::DerivativeStart, with_d && real(10) != 0.0),
+        (Class::TinyGain, with_d && gain < 1e-15),
+    ]
+}
+
+/// What a rising trigger meets: with one there is an integrator.
+fn controller_reset(s: &[u64], before: &[u64]) -> [(Class, bool); 3] {
+    [
+        (Class::ZeroReset(false), s[11] == ZERO),
+        (Class::ZeroReset(true), s[11] == MINUS_ZERO),
+        (Class::NanReset, f64::from_bits(before[0]).is_nan()),
+    ]
 }
 
 /// A rising trigger or reset, a false input of a delay, a clear of a hold.
@@ -37,12 +93,11 @@ fn is_wiping(kind: Kind, s: &[u64], inputs: &[u64], before: &[u64]) -> bool {
 pub fn ring_effects((head, count): (u64, u64), after: &[u64]) -> Vec<Class> {
     let capacity = (after.len() as u64 - 6) / 2;
     let (pruned, grew) = (after[3] != head, after[4] > count);
-    let classes = [
+    met([
         (Class::Pruned, pruned),
         (Class::Appended, grew),
         (Class::Overwritten, !pruned && !grew),
         (Class::FullRing, after[4] == capacity),
-    ];
-    let met = classes.into_iter().filter(|(_, is_met)| *is_met);
-    met.map(|(class, _)| class).collect()
+    ])
+    .collect()
 }

@@ -20,6 +20,26 @@ pub enum Class {
     Appended,
     Overwritten,
     FullRing,
+    /// A gap from a set previous time that is infinite.
+    InfiniteGap,
+    /// A controller of this type, as its setting counts them.
+    Type(u64),
+    /// Equal inputs of a controller whose direction is -1: an error of -0.0.
+    EqualInputs,
+    /// Limits with y_min > y_max.
+    CrossedLimits,
+    /// A setting that is a zero; true: -0.0.
+    ZeroSetting(bool),
+    /// A first tick on an integrator that is a zero; true: -0.0.
+    ZeroStart(bool),
+    /// A first tick whose yD is a yd_start other than a zero.
+    DerivativeStart,
+    /// A first tick with k * td below 1e-15.
+    TinyGain,
+    /// A rising trigger with a y_reset that is a zero; true: -0.0.
+    ZeroReset(bool),
+    /// A rising trigger on an integrator that is a NaN.
+    NanReset,
 }
 
 use Class::*;
@@ -95,7 +115,7 @@ impl Tally {
 /// What a comparison of this block call by call must meet.
 #[must_use]
 pub fn expected_classes(kind: Kind) -> Vec<Class> {
-    let mut wanted = vec![Accepted, Start, FirstTick];
+    let mut wanted = vec![Accepted, Start, FirstTick, InfiniteGap];
     wanted.extend([2, 3, 5, 6, 7].map(Refused));
     if kind.outputs().contains('b') {
         wanted.extend([True, False]);
@@ -103,7 +123,14 @@ pub fn expected_classes(kind: Kind) -> Vec<Class> {
     if kind.outputs().contains('r') {
         wanted.push(Nan);
     }
+    if kind.is_controller() {
+        wanted.extend([0, 1, 2, 3].map(Type));
+        wanted.extend([EqualInputs, CrossedLimits, DerivativeStart, TinyGain]);
+        wanted.extend([false, true].map(ZeroSetting));
+        wanted.extend([false, true].map(ZeroStart));
+    }
     match kind {
+        Kind::PidWithReset => wanted.extend([Wiping, NanReset, ZeroReset(false), ZeroReset(true)]),
         Kind::MovingAverage => wanted.extend([Warning, Pruned, Appended, Overwritten, FullRing]),
         Kind::Pid | Kind::TrueFalseHold | Kind::LogicalVariablePulse => {}
         _ => wanted.push(Wiping),

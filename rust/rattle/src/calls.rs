@@ -1,28 +1,49 @@
 //! The proved blocks as the comparison calls them, each region between guard words.
 use comparison::{Calls, Kind};
 
-use crate::timers::{Timer, timer};
+use crate::block::Block;
+use crate::{controllers, timers};
 
 /// The blocks that are proved.
-pub const BLOCKS: [Kind; 4] = [
+pub const BLOCKS: [Kind; 6] = [
+    Kind::Pid,
+    Kind::PidWithReset,
     Kind::TimerAccumulating,
     Kind::TrueDelay,
     Kind::TrueFalseHold,
     Kind::TrueHoldWithReset,
 ];
 
+/// The proved block of this kind, if there is one.
+#[must_use]
+pub fn block(kind: Kind) -> Option<&'static Block> {
+    match kind {
+        Kind::Pid => Some(&controllers::PID),
+        Kind::PidWithReset => Some(&controllers::PID_WITH_RESET),
+        Kind::TimerAccumulating => Some(&timers::TIMER_ACCUMULATING),
+        Kind::TrueDelay => Some(&timers::TRUE_DELAY),
+        Kind::TrueFalseHold => Some(&timers::TRUE_FALSE_HOLD),
+        Kind::TrueHoldWithReset => Some(&timers::TRUE_HOLD_WITH_RESET),
+        Kind::MovingAverage | Kind::LogicalVariablePulse => None,
+    }
+}
+
 /// The proved calls, to be compared with the Rust.
 pub const CALLS: Calls = Calls {
     state_length: |kind, s| (of(kind).state_length)(s),
     start: |kind, s, w| guarded(w, |w| (of(kind).start)(s, w)),
-    emit: |kind, s, time, v, w| reading(w, |w| (of(kind).emit)(Timer::words(s, time, v), w)),
-    update: |kind, s, time, v, w| guarded(w, |w| (of(kind).update)(Timer::words(s, time, v), w)),
-    tick: |kind, s, time, v, w| guarded(w, |w| (of(kind).tick)(Timer::words(s, time, v), w)),
+    emit: |kind, s, time, v, w| reading(w, |w| (of(kind).emit)(s, time, three(v), w)),
+    update: |kind, s, time, v, w| guarded(w, |w| (of(kind).update)(s, time, three(v), w)),
+    tick: |kind, s, time, v, w| guarded(w, |w| (of(kind).tick)(s, time, three(v), w)),
     refusal: |kind, s, w| reading(w, |w| (of(kind).refusal)(s, w)),
 };
 
-fn of(kind: Kind) -> &'static Timer {
-    timer(kind).expect("a proved block")
+fn of(kind: Kind) -> &'static Block {
+    block(kind).expect("a proved block")
+}
+
+fn three(inputs: &[u64]) -> &[u64; 3] {
+    inputs.try_into().expect("three inputs")
 }
 
 const GUARD: u64 = 0x5EED_0F60_4A4D_5EED;

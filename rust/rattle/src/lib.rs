@@ -1,9 +1,12 @@
 //! The proved library, linked. Nothing checks these declarations against crates/exports: the tests do.
+pub mod bench_rows;
+mod block;
 mod calls;
+mod controllers;
 mod leaves;
 pub mod shown;
 mod timers;
 
-pub use calls::{BLOCKS, CALLS};
+pub use block::Block;
+pub use calls::{BLOCKS, CALLS, block};
 pub use leaves::LEAVES;
-pub use timers::{Timer, timer};

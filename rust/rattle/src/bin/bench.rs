@@ -5,11 +5,11 @@
 use std::hint::black_box;
 
 use comparison::bench::{Case, Published, Ticking, cases};
-use rattle::{Timer, timer};
+use rattle::{Block, block};
 
-/// A proved timer with its region.
+/// A proved block with its region.
 struct Proved<'a> {
-    timer: &'static Timer,
+    block: &'static Block,
     settings: &'a [u64],
     region: Vec<u64>,
     /// One whole tick, in the place of an emit and an update.
@@ -18,12 +18,12 @@ struct Proved<'a> {
 
 impl Proved<'_> {
     fn new(case: &Case, whole: bool) -> Option<Proved<'_>> {
-        let timer = timer(case.kind)?;
-        let (_, length) = (timer.state_length)(&case.settings);
+        let block = block(case.kind)?;
+        let (_, length) = (block.state_length)(&case.settings);
         let mut region = vec![0; length];
-        (timer.start)(&case.settings, &mut region);
+        (block.start)(&case.settings, &mut region);
         Some(Proved {
-            timer,
+            block,
             settings: &case.settings,
             region,
             whole,
@@ -33,17 +33,17 @@ impl Proved<'_> {
 
 impl Ticking for Proved<'_> {
     fn emit(&mut self, time: f64, inputs: &[u64; 3]) {
-        let words = Timer::words(self.settings, time.to_bits(), inputs);
-        black_box((self.timer.emit)(black_box(words), &self.region));
+        let (s, time, v) = black_box((self.settings, time.to_bits(), inputs));
+        black_box((self.block.emit)(s, time, v, &self.region));
     }
 
     fn tick(&mut self, time: f64, inputs: &[u64; 3]) {
-        let words = Timer::words(self.settings, time.to_bits(), inputs);
+        let (s, time, v) = black_box((self.settings, time.to_bits(), inputs));
         if self.whole {
-            black_box((self.timer.tick)(black_box(words), &mut self.region));
+            black_box((self.block.tick)(s, time, v, &mut self.region));
         } else {
-            black_box((self.timer.emit)(black_box(words), &self.region));
-            black_box((self.timer.update)(words, &mut self.region));
+            black_box((self.block.emit)(s, time, v, &self.region));
+            black_box((self.block.update)(s, time, v, &mut self.region));
         }
     }
 }

@@ -18,7 +18,8 @@ pub enum ControllerType {
     Pid,
 }
 
-// A controller's settings.
+// A controller's settings: gain k, integral and derivative time ti and td, range r of the error, limits y_max and y_min of the output,
+// anti-windup factor ni, filter factor nd, the integrator and the derivative term at the start, the output that a reset aims at, and the direction.
 pub struct ControllerConfig {
     pub controller_type: ControllerType,
     pub k: f64,

@@ -10,9 +10,9 @@ use lib.Ieee.{Float}
 use lib.Ieee.Scale.{finite}
 use Rattle.reals.specs.Words.{0·0}
 use Rattle.dynamics.specs.Previous.{runsBack}
-use Rattle.dynamics.specs.Answer.{Outputs, silent, emitted, updated, ticked, refusalOf, formRefusal, accept}
+use Rattle.dynamics.specs.Answer.{Outputs, silent, emitted, updated, ticked, refusalOf, formRefusal, accept, lengthOf}
 use Rattle.dynamics.specs.Region.{stored, Gives}
-use Rattle.dynamics.specs.Machine.{Machine, sized, startRefusal, decodeRefusal, tickRefusal, startedWords, isSound, emitAnswer, updateAnswer, updatedWords, tickAnswer, Tick, emits, updates, answerTo, wordsAfter, run}
+use Rattle.dynamics.specs.Machine.{Machine, sized, lengthAnswer, startRefusal, decodeRefusal, tickRefusal, startedWords, isSound, emitAnswer, updateAnswer, updatedWords, tickAnswer, Tick, emits, updates, answerTo, wordsAfter, run}
 use Rattle.dynamics.specs.declared.call.Answer.{Answer}
 use Rattle.dynamics.specs.declared.call.Inputs.{Inputs}
 use Rattle.dynamics.proofs.Accepted.{accepted, accept-ap, accept-const, all-passed}
@@ -112,6 +112,24 @@ module _ (M : Machine) (time : Float) (i : Inputs) (w : List ℕ) where
   pub update-boolean : updateAnswer M time i w .boolean ≡ false
   unfolding updateAnswer
   update-boolean = accept-ap (λ (a : Answer). a .boolean) number _ _ ∙ accept-const number false
+
+-- ---- settings that are not accepted: every call refuses them with 2
+module _ (M : Machine) (no-settings : M .accepts ≡ false) where
+  pub start-2 : (w : List ℕ) → startRefusal M w ≡ 2
+  unfolding startRefusal formRefusal refusalOf
+  start-2 w = simp no-settings
+
+  pub decode-2 : (w : List ℕ) → decodeRefusal M w ≡ 2
+  unfolding decodeRefusal refusalOf
+  decode-2 w = simp no-settings
+
+  pub tick-2 : (time : Float) (w : List ℕ) → tickRefusal M time w ≡ 2
+  unfolding tickRefusal refusalOf
+  tick-2 time w = simp no-settings
+
+  pub length-2 : lengthAnswer M ≡ record { refusal = 2; length = 0 }
+  unfolding lengthAnswer lengthOf formRefusal refusalOf accept
+  length-2 = simp no-settings
 
 -- ---- a whole tick is an emit and then an update with the same time and inputs
 module _ (M : Machine) (w : List ℕ) (k : Tick) where

@@ -3,6 +3,7 @@ use std::hint::black_box;
 use std::time::Instant;
 
 use crate::Kind;
+use crate::inputs::bench_controller;
 use crate::oracle::{Oracle, values};
 use Kind::*;
 use oce_blocks::{Block, Ctx, NoopDiagnostics, access};
@@ -39,11 +40,10 @@ fn case(name: &'static str, kind: Kind, settings: &[f64]) -> Case {
 }
 
 fn controller(name: &'static str, kind: Kind, mode: u64) -> Case {
-    let reals = [1.0, 0.5, 0.1, 1.0, 1.0, 0.0, 0.9, 10.0, 0.0, 0.0, 0.0];
-    let mut case = case(name, kind, &reals);
-    case.settings.insert(0, mode);
-    case.settings.push(1);
-    case
+    Case {
+        settings: bench_controller(mode, 1.0, 0.0),
+        ..case(name, kind, &[])
+    }
 }
 
 /// A moving average that has run for two windows.

@@ -1,5 +1,6 @@
 //! Document 01's bench table, P1 to P10, on the ported Rust and on the model alike.
 //! (P11 is of the sheet, which the Rust does not have.)
+use comparison::inputs::bench_controller;
 use comparison::oracle::Oracle;
 use comparison::{Answer, Kind, model};
 
@@ -35,26 +36,6 @@ fn reals(kind: Kind, s: &[u64], ticks: &[(f64, [u64; 3])]) -> Vec<f64> {
     answers.iter().map(|a| f64::from_bits(a.real)).collect()
 }
 
-/// Settings of P3 to P6: type, k and y_reset differ.
-fn controller(mode: u64, k: f64, y_reset: f64) -> [u64; 13] {
-    let [ti, td, r, y_max, y_min, ni, nd] = [0.5, 0.1, 1.0, 1.0, 0.0, 0.9, 10.0].map(w);
-    [
-        mode,
-        w(k),
-        ti,
-        td,
-        r,
-        y_max,
-        y_min,
-        ni,
-        nd,
-        0,
-        0,
-        w(y_reset),
-        1,
-    ]
-}
-
 #[test]
 fn p1_p2_true_delay() {
     let ticks = [(0.0, 1), (1.0, 0), (2.0, 1), (3.0, 1), (4.0, 1), (3.0, 1)];
@@ -79,10 +60,10 @@ fn p1_p2_true_delay() {
 fn p3_to_p6_controller() {
     let v = [w(0.5), w(0.25), 0];
     assert_eq!(
-        reals(Kind::Pid, &controller(0, 2.0, 0.0), &[(0.0, v)]),
+        reals(Kind::Pid, &bench_controller(0, 2.0, 0.0), &[(0.0, v)]),
         [0.5]
     );
-    let pi = controller(1, 1.0, 0.75);
+    let pi = bench_controller(1, 1.0, 0.75);
     let got = reals(Kind::Pid, &pi, &[(0.0, v), (2.0, v), (3.0, v)]);
     assert_eq!(got, [0.25, 0.25, 1.0]);
     let rise = [v[0], v[1], 1];
@@ -93,7 +74,7 @@ fn p3_to_p6_controller() {
     );
     let answers = run(
         Kind::Pid,
-        &controller(0, 2.0, 0.0),
+        &bench_controller(0, 2.0, 0.0),
         &[(0.0, [NAN, v[1], 0])],
     );
     assert_eq!(answers[0].real, NAN);

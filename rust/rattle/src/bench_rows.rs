@@ -1,7 +1,14 @@
 //! Rows P3 to P6 of document 01's bench table, run on the proved controllers: the table of docs/CONTROLLER.md.
-use comparison::Kind;
+use comparison::inputs::bench_controller;
+use comparison::{Answer, Kind};
 
-use crate::CALLS;
+use crate::run;
+
+/// A tick's time, `u_s` and trigger; `Pid` has none.
+type Tick = (f64, f64, Option<u64>);
+
+/// What it answers, and the words that it leaves.
+type Left = (Answer, Vec<u64>);
 
 /// A run from a fresh start: u_m is 0.25, r 1, the limits 0 and 1, reverse_acting.
 struct Row {
@@ -9,8 +16,7 @@ struct Row {
     kind: Kind,
     /// The type's number, k and `y_reset`.
     settings: (u64, f64, f64),
-    /// For each tick its time, `u_s` and trigger; `Pid` has none.
-    ticks: &'static [(f64, f64, Option<u64>)],
+    ticks: &'static [Tick],
 }
 
 const ROWS: [Row; 4] = [
@@ -48,36 +54,30 @@ const ROWS: [Row; 4] = [
 const U_M: f64 = 0.25;
 
 impl Row {
-    fn settings(&self) -> Vec<u64> {
-        let (mode, k, y_reset) = self.settings;
-        let numbers = [k, 0.5, 0.1, 1.0, 1.0, 0.0, 0.9, 10.0, 0.0, 0.0, y_reset];
-        let mut words = vec![mode];
-        words.extend(numbers.map(f64::to_bits));
-        words.push(1);
-        words
-    }
-
     /// A line for each tick: time, inputs, output and the integrator after it.
     fn lines(&self) -> Vec<String> {
-        let settings = self.settings();
-        let (_, length) = (CALLS.state_length)(self.kind, &settings);
-        let mut region = vec![0; length];
-        assert_eq!((CALLS.start)(self.kind, &settings, &mut region), 0);
-        let mut tick = |n: usize, &(time, u_s, trigger): &(f64, f64, Option<u64>)| {
+        let (mode, k, y_reset) = self.settings;
+        let words = |&(t, u_s, trigger): &Tick| {
             let inputs = [u_s.to_bits(), U_M.to_bits(), trigger.unwrap_or(0)];
-            let answer = (CALLS.tick)(self.kind, &settings, time.to_bits(), &inputs, &mut region);
-            assert_eq!(answer.refusal, 0);
-            let title = if n == 0 { self.title } else { "" };
-            let trigger = trigger.map_or(String::new(), |t| t.to_string());
-            let y = f64::from_bits(answer.real);
-            let integrator = region.first().map(|&w| format!("{:?}", f64::from_bits(w)));
-            let integrator = integrator.unwrap_or("none".into());
-            format!("| {title} | {time} | {u_s} | {U_M} | {trigger} | {y:?} | {integrator} |")
-                .replace("|  |", "| |")
+            (t, inputs)
         };
-        let ticks = self.ticks.iter().enumerate();
-        ticks.map(|(n, at)| tick(n, at)).collect()
+        let ticks: Vec<_> = self.ticks.iter().map(words).collect();
+        let run = run(self.kind, &bench_controller(mode, k, y_reset), &ticks);
+        let titles = std::iter::once(self.title).chain(std::iter::repeat(""));
+        let shown = titles.zip(self.ticks).zip(&run);
+        shown
+            .map(|((title, tick), left)| line(title, tick, left))
+            .collect()
     }
+}
+
+fn line(title: &str, &(time, u_s, trigger): &Tick, (answer, left): &Left) -> String {
+    let trigger = trigger.map_or(String::new(), |t| t.to_string());
+    let y = f64::from_bits(answer.real);
+    let integrator = left.first().map(|&w| format!("{:?}", f64::from_bits(w)));
+    let integrator = integrator.unwrap_or("none".into());
+    let line = format!("| {title} | {time} | {u_s} | {U_M} | {trigger} | {y:?} | {integrator} |");
+    line.replace("|  |", "| |")
 }
 
 /// The table's lines.

@@ -1,5 +1,5 @@
 //! The proved blocks as the comparison calls them, each region between guard words.
-use comparison::{Calls, Kind};
+use comparison::{Answer, Calls, Kind};
 
 use crate::block::Block;
 use crate::{controllers, timers};
@@ -37,6 +37,23 @@ pub const CALLS: Calls = Calls {
     tick: |kind, s, time, v, w| guarded(w, |w| (of(kind).tick)(s, time, three(v), w)),
     refusal: |kind, s, w| reading(w, |w| (of(kind).refusal)(s, w)),
 };
+
+/// Whole ticks from a fresh start: what each answers, and the words that it leaves.
+///
+/// # Panics
+/// If a call is refused.
+#[must_use]
+pub fn run(kind: Kind, settings: &[u64], ticks: &[(f64, [u64; 3])]) -> Vec<(Answer, Vec<u64>)> {
+    let (_, length) = (CALLS.state_length)(kind, settings);
+    let mut region = vec![0; length];
+    assert_eq!((CALLS.start)(kind, settings, &mut region), 0);
+    let tick = |(time, inputs): &(f64, [u64; 3])| {
+        let answer = (CALLS.tick)(kind, settings, time.to_bits(), inputs, &mut region);
+        assert_eq!(answer.refusal, 0);
+        (answer, region.clone())
+    };
+    ticks.iter().map(tick).collect()
+}
 
 fn of(kind: Kind) -> &'static Block {
     block(kind).expect("a proved block")

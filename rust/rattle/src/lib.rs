@@ -8,5 +8,5 @@ pub mod shown;
 mod timers;
 
 pub use block::Block;
-pub use calls::{BLOCKS, CALLS, block};
+pub use calls::{BLOCKS, CALLS, block, run};
 pub use leaves::LEAVES;

@@ -3,7 +3,7 @@ use std::fmt::Write as _;
 
 use comparison::Kind;
 
-use crate::CALLS;
+use crate::run;
 
 /// A run from a fresh start.
 pub struct Example {
@@ -106,30 +106,26 @@ impl Example {
     #[must_use]
     pub fn text(&self) -> String {
         let settings: Vec<u64> = self.settings.iter().map(|x| x.to_bits()).collect();
-        let (_, length) = (CALLS.state_length)(self.kind, &settings);
-        let mut region = vec![0; length];
-        assert_eq!((CALLS.start)(self.kind, &settings, &mut region), 0);
-        let (mut outputs, mut timers) = (vec![], vec![]);
-        for (time, inputs) in self.ticks {
-            let mut words = [0; 3];
-            for (word, input) in words.iter_mut().zip(inputs.chars()) {
-                *word = u64::from(input == 'T');
-            }
-            let answer = (CALLS.tick)(self.kind, &settings, time.to_bits(), &words, &mut region);
-            assert_eq!(answer.refusal, 0);
-            outputs.push(answer.boolean);
-            timers.push(f64::from_bits(region[self.timer.1]));
-        }
+        let ticks: Vec<_> = self.ticks.iter().map(|&(t, v)| (t, words(v))).collect();
+        let run = run(self.kind, &settings, &ticks);
+        let outputs = run.iter().map(|(answer, _)| answer.boolean);
+        let timers = run.iter().map(|(_, w)| f64::from_bits(w[self.timer.1]));
         let mut text = format!("{}\n\n", self.title);
         numbers(&mut text, "time", self.ticks.iter().map(|(time, _)| *time));
         for (n, name) in self.inputs.iter().enumerate() {
             let input = |(_, inputs): &(f64, &str)| inputs.as_bytes()[n] == b'T';
             wave(&mut text, name, self.ticks.iter().map(input));
         }
-        wave(&mut text, self.output, outputs.into_iter());
-        numbers(&mut text, self.timer.0, timers.into_iter());
+        wave(&mut text, self.output, outputs);
+        numbers(&mut text, self.timer.0, timers);
         text
     }
+}
+
+/// The input words of a tick.
+fn words(inputs: &str) -> [u64; 3] {
+    let letters = inputs.as_bytes();
+    [0, 1, 2].map(|n| u64::from(letters.get(n) == Some(&b'T')))
 }
 
 fn numbers(text: &mut String, name: &str, numbers: impl Iterator<Item = f64>) {

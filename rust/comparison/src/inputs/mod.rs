@@ -8,5 +8,5 @@ mod ticks;
 pub use reals::{any_bool, any_real, tame, wild};
 pub use regions::region;
 pub use rng::Rng;
-pub use settings::{accepted_settings, settings};
+pub use settings::{accepted_settings, bench_controller, settings};
 pub use ticks::{tick_inputs, tick_time, time_after};

@@ -19,6 +19,16 @@ pub fn settings(r: &mut Rng, kind: Kind) -> Vec<u64> {
     s
 }
 
+/// The settings of document 01's rows P3 to P6, which differ in type, k and `y_reset`.
+#[must_use]
+pub fn bench_controller(mode: u64, k: f64, y_reset: f64) -> Vec<u64> {
+    let numbers = [k, 0.5, 0.1, 1.0, 1.0, 0.0, 0.9, 10.0, 0.0, 0.0, y_reset];
+    let mut s = vec![mode];
+    s.extend(numbers.map(f64::to_bits));
+    s.push(1);
+    s
+}
+
 /// Settings that are not refused.
 pub fn accepted_settings(r: &mut Rng, kind: Kind) -> Vec<u64> {
     loop {

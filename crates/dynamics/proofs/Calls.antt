@@ -36,11 +36,16 @@ module _ (M : Machine) (w : List ℕ) where
   unfolding startRefusal formRefusal
   start-passed z = let (_, s, l, _, _, _, _) = all-passed true (M .accepts) (sized M w) true true true true z in (s, l)
 
-  pub start-accepted : (v : List ℕ) {w' : List ℕ} → length v ≡ M .size → v ≡ M .fresh → 0 ≡ startRefusal M w → w' ≡ stored w v
-      → Gives (startRefusal M w) (startedWords M w) 0 w'
+  pub start-accepted : {w' : List ℕ} → 0 ≡ startRefusal M w → w' ≡ M .fresh → Gives (startRefusal M w) (startedWords M w) 0 w'
   unfolding startedWords
-  start-accepted v l f z s =
-      record { answers = z; leaves = s ∙ stored-all M w v l (start-passed (sym z) .1) ∙ f ∙ accepted _ _ (startRefusal M w) z }
+  start-accepted z f = record { answers = z; leaves = f ∙ accepted _ _ (startRefusal M w) z }
+
+  pub start-sized : startRefusal M w ≡ 0 → sized M w ≡ true
+  start-sized z = start-passed z .1
+
+  -- fresh words that are stored are the region's
+  pub stored-fresh : (v : List ℕ) {w' : List ℕ} → length v ≡ M .size → 0 ≡ startRefusal M w → v ≡ M .fresh → w' ≡ stored w v → w' ≡ M .fresh
+  stored-fresh v l z f s = s ∙ stored-all M w v l (start-passed (sym z) .1) ∙ f
 
   -- a fresh start is sound, if the block's fresh words are
   pub start-sound : length (M .fresh) ≡ M .size → M .sound (M .fresh) ≡ true → startRefusal M w ≡ 0 → isSound M (startedWords M w) ≡ true
@@ -65,8 +70,14 @@ module _ (M : Machine) (time : Float) (i : Inputs) (w : List ℕ) where
   pub tick-settings : number ≡ 0 → M .accepts ≡ true
   tick-settings z = passed z .0
 
+  pub tick-sized : number ≡ 0 → sized M w ≡ true
+  tick-sized z = passed z .1
+
   pub tick-time : number ≡ 0 → finite time ≡ true
   tick-time z = passed z .2
+
+  pub tick-decodes : number ≡ 0 → M .decodes w ≡ true
+  tick-decodes z = passed z .3
 
   -- what a refused call gives
   pub emit-refused : {n : ℕ} → n ≡ number → (n ≡ 0 → ⊥) → silent n ≡ emitAnswer M time i w
@@ -86,19 +97,19 @@ module _ (M : Machine) (time : Float) (i : Inputs) (w : List ℕ) where
   unfolding emitAnswer
   emit-accepted z x = x ∙ accepted _ _ number z
 
-  left : (v : List ℕ) {w' : List ℕ} → length v ≡ M .size → 0 ≡ number → v ≡ M .after w time i → w' ≡ stored w v → w' ≡ updatedWords M time i w
-  unfolding updatedWords
-  left v l z a s = s ∙ stored-all M w v l (passed (sym z) .1) ∙ a ∙ accepted _ _ number z
+  pub update-accepted : {x : Answer} {w' : List ℕ} → 0 ≡ number → x ≡ updated (M .warns w time i) → w' ≡ M .after w time i
+      → Gives (updateAnswer M time i w) (updatedWords M time i w) x w'
+  unfolding updateAnswer updatedWords
+  update-accepted z x a = record { answers = x ∙ accepted _ _ number z; leaves = a ∙ accepted _ _ number z }
 
-  pub update-accepted : (v : List ℕ) {x : Answer} {w' : List ℕ} → length v ≡ M .size → 0 ≡ number → x ≡ updated (M .warns w time i) → v ≡ M .after w time i
-      → w' ≡ stored w v → Gives (updateAnswer M time i w) (updatedWords M time i w) x w'
-  unfolding updateAnswer
-  update-accepted v l z x a s = record { answers = x ∙ accepted _ _ number z; leaves = left v l z a s }
+  pub tick-accepted : {x : Answer} {w' : List ℕ} → 0 ≡ number → x ≡ ticked (M .output w time i) (M .warns w time i) → w' ≡ M .after w time i
+      → Gives (tickAnswer M time i w) (updatedWords M time i w) x w'
+  unfolding tickAnswer updatedWords
+  tick-accepted z x a = record { answers = x ∙ accepted _ _ number z; leaves = a ∙ accepted _ _ number z }
 
-  pub tick-accepted : (v : List ℕ) {x : Answer} {w' : List ℕ} → length v ≡ M .size → 0 ≡ number → x ≡ ticked (M .output w time i) (M .warns w time i)
-      → v ≡ M .after w time i → w' ≡ stored w v → Gives (tickAnswer M time i w) (updatedWords M time i w) x w'
-  unfolding tickAnswer
-  tick-accepted v l z x a s = record { answers = x ∙ accepted _ _ number z; leaves = left v l z a s }
+  -- words that are stored are the region's
+  pub stored-after : (v : List ℕ) {w' : List ℕ} → length v ≡ M .size → 0 ≡ number → v ≡ M .after w time i → w' ≡ stored w v → w' ≡ M .after w time i
+  stored-after v l z a s = s ∙ stored-all M w v l (passed (sym z) .1) ∙ a
 
   -- ---- only updates warn, and an update hands out 0.0 and false
   pub emit-quiet : emitAnswer M time i w .warning ≡ false

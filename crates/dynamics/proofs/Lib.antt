@@ -6,4 +6,5 @@ pub mod Calls
 pub mod Once
 pub mod Histories
 pub mod Gaps
+pub mod Opening
 pub mod Steps

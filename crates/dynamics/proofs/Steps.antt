@@ -1,69 +1,24 @@
--- A block whose words are a state record, and whose calls open an enum first: what each of its returns gives. Assumes nothing.
+-- A block whose words are a state record: what each return of its calls gives. Assumes nothing.
 use mathlib.Core.Path.{_≡_, refl, sym, ap, _∙_}
 use mathlib.Core.Bool.{Bool, true, false}
 use mathlib.Core.List.{List}
-use Prim.Native.Nat.{ℕ, zero, suc}
-use native.Mathlib.Omega.{arith}
+use Prim.Native.Nat.{ℕ}
 use lib.Ieee.{Float}
 use lib.Dec.{eqb}
 use lib.ListN.{length}
 use Rattle.dynamics.specs.Previous.{soundPrevious}
-use Rattle.dynamics.specs.Answer.{silent, emitted, refusalOf, skipped, formRefusal, timeRefusal, accept}
+use Rattle.dynamics.specs.Answer.{silent, emitted, formRefusal, timeRefusal}
 use Rattle.dynamics.specs.Region.{stored, Gives}
-use Rattle.dynamics.specs.Machine.{Machine, startRefusal, startedWords, Reading, decodeRefusal, decodeAnswer, isSound, tickRefusal, emitAnswer, updateAnswer, updatedWords, tickAnswer}
-use Rattle.dynamics.specs.Stepped.{Stepped, machineOf, openedAs}
+use Rattle.dynamics.specs.Machine.{Machine, startRefusal, startedWords, decodeRefusal, decodeAnswer, isSound, tickRefusal, emitAnswer, updateAnswer, updatedWords, tickAnswer}
+use Rattle.dynamics.specs.Stepped.{Stepped, machineOf}
 use Rattle.dynamics.specs.declared.call.Answer.{Answer}
 use Rattle.dynamics.specs.declared.call.Inputs.{Inputs}
 use Rattle.dynamics.specs.declared.previous.Previous.the-variants.{Unset}
-use Rattle.dynamics.proofs.Accepted.{accepted, refused-6, refused-none, form-fails, form-passes}
-use Rattle.dynamics.proofs.Accepted as by
-use Rattle.dynamics.proofs.Calls.{sound-decodes, start-sound, start-refused, start-accepted, emit-refused, emit-accepted, update-refused, update-accepted, tick-refused, tick-accepted}
+use Rattle.dynamics.proofs.Calls.{start-sound, start-accepted, emit-accepted, update-accepted, tick-accepted, stored-fresh, stored-after}
+use Rattle.dynamics.proofs.Opening.{Enum, Opened, ok, here, fine}
+use Rattle.dynamics.proofs.Opening as opening
 
--- A decoding enum: its two cases, document 01's number and values of each, and that they are two.
-pub record Enum (S D : Type 0) : Type 0 where
-  pub state : S → D
-  pub refused : ℕ → D
-  pub zeros : S
-  pub reads : D → Reading S
-  pub reads-state : (s : S) → reads (state s) ≡ record { refusal = 0; state = s }
-  pub reads-refused : (n : ℕ) → reads (refused n) ≡ record { refusal = n; state = zeros }
-  pub apart : (s : S) (n : ℕ) → state s ≡ refused n → ⊥
-
-module _ {S D : Type 0} (E : Enum S D) where
-  abbrev pub Opened : ℕ → S → D
-  Opened n x = openedAs (E .state) (E .refused) n x
-
-  -- what it says: the number, and the state or the zeros
-  opened-reads : (n : ℕ) (x : S) → E .reads (Opened n x) ≡ record { refusal = n; state = accept n x (E .zeros) }
-  unfolding openedAs accept
-  opened-reads zero x = E .reads-state x
-  opened-reads (suc n) x = E .reads-refused (suc n)
-
-  -- so the number that it stands for is the call's
-  opened-number : (n : ℕ) (x : S) {d : D} {k : ℕ} → d ≡ Opened n x → k ≡ E .reads d .refusal → k ≡ n
-  opened-number n x o e = e ∙ ap (λ (d : D). E .reads d .refusal) o ∙ ap (λ (r : Reading S). r .refusal) (opened-reads n x)
-
-  -- made
-  open-refused : (n : ℕ) (x : S) {m : ℕ} → m ≡ n → (m ≡ 0 → ⊥) → E .refused m ≡ Opened n x
-  unfolding openedAs
-  open-refused n x e h = ap (E .refused) e ∙ by.refused _ _ n e h
-
-  open-state : (n : ℕ) (x : S) {s : S} → 0 ≡ n → s ≡ x → E .state s ≡ Opened n x
-  unfolding openedAs
-  open-state n x z e = ap (E .state) e ∙ accepted _ _ n z
-
-  -- taken apart
-  was-refused : (n : ℕ) (x : S) (m : ℕ) → Opened n x ≡ E .refused m → n ≡ 0 → ⊥
-  unfolding openedAs accept
-  was-refused zero x m d z = E .apart x m d
-  was-refused (suc n) x m d z = omega arith
-
-  was-state : (n : ℕ) (x s : S) → Opened n x ≡ E .state s → (n ≡ 0) × (s ≡ x)
-  unfolding openedAs accept
-  was-state zero x s d = (refl, sym (ap (λ (r : Reading S). r .state) (sym (E .reads-state x) ∙ ap (E .reads) d ∙ E .reads-state s)))
-  was-state (suc n) x s d = absurd (E .apart s (suc n) (sym d))
-
--- Blocks with settings X whose calls open such an enum first. A state has as many words as the block says, and a fresh one is read
+-- Blocks with settings X whose calls open an enum first. A state has as many words as the block says, and a fresh one is read
 -- back with its previous time unset.
 pub record Opens (X S D : Type 0) : Type 0 where
   pub enum : Enum S D
@@ -81,85 +36,66 @@ module _ {X S D : Type 0} (O : Opens X S D) (b : X) where
   abbrev M : Machine
   M = machineOf B
 
-  module _ (time : Float) (i : Inputs) (w : List ℕ) where
-    abbrev number : ℕ
-    number = tickRefusal M time w
+  module _ (time : Float) (i : Inputs) (w : List ℕ) {d : D} (opened : d ≡ Opened E (tickRefusal M time w) (B .stateOf w)) where
+    -- in the `else`, the refusal
+    module _ {m k : ℕ} (is : d ≡ E .refused m) (e : k ≡ E .reads d .refusal) {x : Answer} (silence : x ≡ silent k) where
+      pub emit-else : x ≡ emitAnswer M time i w
+      emit-else = opening.emit-else E M (B .stateOf) time i w opened is e silence
 
-    abbrev met : D
-    met = Opened E number (B .stateOf w)
+      pub update-else : Gives (updateAnswer M time i w) (updatedWords M time i w) x w
+      update-else = opening.update-else E M (B .stateOf) time i w opened is e silence
 
-    -- what an opened region gives: in the `else`, the refusal
-    module _ {d : D} (opened : d ≡ met) where
-      module _ {m k : ℕ} (is : d ≡ E .refused m) (e : k ≡ E .reads d .refusal) where
-        told-number : k ≡ number
-        told-number = opened-number E number (B .stateOf w) opened e
+      pub tick-else : Gives (tickAnswer M time i w) (updatedWords M time i w) x w
+      tick-else = opening.tick-else E M (B .stateOf) time i w opened is e silence
 
-        refusal : k ≡ 0 → ⊥
-        refusal z = was-refused E number (B .stateOf w) m (sym opened ∙ is) (sym told-number ∙ z)
+    -- after it, the state
+    module _ {s : S} (is : d ≡ E .state s) where
+      good : 0 ≡ tickRefusal M time w
+      good = ok E M (B .stateOf) time i w opened is
 
-        pub emit-else : {x : Answer} → x ≡ silent k → x ≡ emitAnswer M time i w
-        emit-else x = x ∙ emit-refused M time i w told-number refusal
+      same : s ≡ B .stateOf w
+      same = here E M (B .stateOf) time i w opened is
 
-        pub update-else : {x : Answer} → x ≡ silent k → Gives (updateAnswer M time i w) (updatedWords M time i w) x w
-        update-else x = rw x (update-refused M time i w told-number refusal)
+      pub emit-then : {x : Answer} → x ≡ emitted (B .output s time i) → x ≡ emitAnswer M time i w
+      unfolding machineOf
+      emit-then x = emit-accepted M time i w good (x ∙ ap (λ (q : S). emitted (B .output q time i)) same)
 
-        pub tick-else : {x : Answer} → x ≡ silent k → Gives (tickAnswer M time i w) (updatedWords M time i w) x w
-        tick-else x = rw x (tick-refused M time i w told-number refusal)
-
-      -- after it, the state
-      module _ {s : S} (is : d ≡ E .state s) where
-        ok : 0 ≡ number
-        ok = sym (was-state E number (B .stateOf w) s (sym opened ∙ is) .0)
-
-        here : s ≡ B .stateOf w
-        here = was-state E number (B .stateOf w) s (sym opened ∙ is) .1
-
-        pub emit-then : {x : Answer} → x ≡ emitted (B .output s time i) → x ≡ emitAnswer M time i w
+      module _ {s' : S} {w' : List ℕ} (n : s' ≡ B .advance s time i) (l : w' ≡ stored w (B .wordsOf s')) where
+        left : w' ≡ M .after w time i
         unfolding machineOf
-        emit-then x = emit-accepted M time i w ok (x ∙ ap (λ (q : S). emitted (B .output q time i)) here)
+        left =
+            stored-after M time i w (B .wordsOf s') (O .counted b s') good
+            (ap (B .wordsOf) n ∙ ap (λ (q : S). B .wordsOf (B .advance q time i)) same) l
 
-        module _ {s' : S} {w' : List ℕ} (n : s' ≡ B .advance s time i) (l : w' ≡ stored w (B .wordsOf s')) where
-          next : B .wordsOf s' ≡ B .wordsOf (B .advance (B .stateOf w) time i)
-          next = ap (B .wordsOf) n ∙ ap (λ (q : S). B .wordsOf (B .advance q time i)) here
+        pub update-then : {x : Answer} → x ≡ silent 0 → Gives (updateAnswer M time i w) (updatedWords M time i w) x w'
+        unfolding machineOf
+        update-then x = update-accepted M time i w good x left
 
-          pub update-then : {x : Answer} → x ≡ silent 0 → Gives (updateAnswer M time i w) (updatedWords M time i w) x w'
-          unfolding machineOf
-          update-then x = update-accepted M time i w (B .wordsOf s') (O .counted b s') ok x next l
-
-          pub tick-then : {x : Answer} → x ≡ emitted (B .output s time i) → Gives (tickAnswer M time i w) (updatedWords M time i w) x w'
-          unfolding machineOf
-          tick-then x = tick-accepted M time i w (B .wordsOf s') (O .counted b s') ok (x ∙ ap (λ (q : S). emitted (B .output q time i)) here) next l
+        pub tick-then : {x : Answer} → x ≡ emitted (B .output s time i) → Gives (tickAnswer M time i w) (updatedWords M time i w) x w'
+        unfolding machineOf
+        tick-then x = tick-accepted M time i w good (x ∙ ap (λ (q : S). emitted (B .output q time i)) same) left
 
   -- ---- opening, in the order of the table: tests 2 and 3, then the state is read, then the others
   module _ (w : List ℕ) {a : Bool} (settings : a ≡ B .accepts) {n : ℕ} (formed : n ≡ formRefusal a (eqb (length w) (B .size))) where
-    form : n ≡ startRefusal M w
-    unfolding startRefusal machineOf
-    form = rw settings at formed
-
     module _ (bad : n ≡ 0 → ⊥) where
       pub start-form : Gives (startRefusal M w) (startedWords M w) n w
-      start-form = start-refused M w form bad
+      unfolding machineOf
+      start-form = opening.start-form E M (B .stateOf) w settings formed bad
 
       pub decode-form : E .refused n ≡ Opened E (decodeRefusal M w) (B .stateOf w)
-      unfolding decodeRefusal startRefusal machineOf
-      decode-form = open-refused E (decodeRefusal M w) (B .stateOf w) (form-fails _ _ _ _ _ form bad) bad
+      unfolding machineOf
+      decode-form = opening.decode-form E M (B .stateOf) w settings formed bad
 
       pub admit-form : (time : Float) → E .refused n ≡ Opened E (tickRefusal M time w) (B .stateOf w)
-      unfolding tickRefusal startRefusal machineOf
-      admit-form time = open-refused E (tickRefusal M time w) (B .stateOf w) (form-fails _ _ _ _ _ form bad) bad
+      unfolding machineOf
+      admit-form = opening.admit-form E M (B .stateOf) w settings formed bad
 
     module _ (good : n ≡ 0) where
-      fine : startRefusal M w ≡ 0
-      fine = sym form ∙ good
-
-      -- the other tests decide
-      others : (time state order : Bool) → refusalOf skipped skipped skipped skipped time state order ≡ refusalOf skipped (B .accepts) (eqb (length w) (B .size)) skipped time state order
-      unfolding startRefusal machineOf
-      others time state order = form-passes _ _ time state order fine
-
       pub start-then : {w' : List ℕ} → w' ≡ stored w (B .wordsOf (B .initial)) → Gives (startRefusal M w) (startedWords M w) 0 w'
       unfolding machineOf
-      start-then l = start-accepted M w (B .wordsOf (B .initial)) (O .counted b (B .initial)) refl (sym fine) l
+      start-then l =
+          let z = fine E M (B .stateOf) w settings formed good in
+          start-accepted M w (sym z) (stored-fresh M w (B .wordsOf (B .initial)) (O .counted b (B .initial)) (sym z) refl l)
 
       module _ {s : S} (e : s ≡ B .stateOf w) {d : Bool} (sound : d ≡ soundPrevious (B .previous s)) where
         -- what the state tells of the words
@@ -167,36 +103,33 @@ module _ {X S D : Type 0} (O : Opens X S D) (b : X) where
         told = sound ∙ ap (λ (q : S). soundPrevious (B .previous q)) e
 
         pub decode-then : d ≡ true → E .state s ≡ Opened E (decodeRefusal M w) (B .stateOf w)
-        unfolding decodeRefusal machineOf
-        decode-then t = open-state E (decodeRefusal M w) (B .stateOf w) (refused-none _ _ _ _ _ refl refl refl (sym told ∙ t) refl ∙ others _ _ _) e
+        unfolding machineOf
+        decode-then = opening.decode-then E M (B .stateOf) w settings formed good e told
 
         pub decode-else : d ≡ false → E .refused 6 ≡ Opened E (decodeRefusal M w) (B .stateOf w)
-        unfolding decodeRefusal machineOf
-        decode-else t = open-refused E (decodeRefusal M w) (B .stateOf w) (refused-6 _ _ _ _ _ refl refl refl (sym told ∙ t) ∙ others _ _ _) (λ z. omega arith)
+        unfolding machineOf
+        decode-else = opening.decode-else E M (B .stateOf) w settings formed good e told
 
         module _ (time : Float) {k : ℕ} (t : k ≡ timeRefusal time d (B .previous s)) where
-          last : k ≡ tickRefusal M time w
-          unfolding tickRefusal timeRefusal machineOf
-          last = t ∙ rw (told, e) (others _ _ _)
-
           pub admit-then : k ≡ 0 → E .state s ≡ Opened E (tickRefusal M time w) (B .stateOf w)
-          admit-then z = open-state E (tickRefusal M time w) (B .stateOf w) (sym z ∙ last) e
+          unfolding machineOf
+          admit-then = opening.admit-then E M (B .stateOf) w settings formed good e told time (ap (B .previous) e) t
 
           pub admit-else : (k ≡ 0 → ⊥) → E .refused k ≡ Opened E (tickRefusal M time w) (B .stateOf w)
-          admit-else bad = open-refused E (tickRefusal M time w) (B .stateOf w) last bad
+          unfolding machineOf
+          admit-else = opening.admit-else E M (B .stateOf) w settings formed good e told time (ap (B .previous) e) t
 
   -- ---- what decoding answers, in document 01's number and values; its number; that a region is sound exactly if it decodes
   module _ (w : List ℕ) where
     pub decode-says : E .reads (Opened E (decodeRefusal M w) (B .stateOf w)) ≡ decodeAnswer M (B .stateOf) (E .zeros) w
-    unfolding decodeAnswer
-    decode-says = opened-reads E (decodeRefusal M w) (B .stateOf w)
+    decode-says = opening.decode-says E M (B .stateOf) w
 
     pub decode-number : {d : D} {k : ℕ} → d ≡ Opened E (decodeRefusal M w) (B .stateOf w) → k ≡ E .reads d .refusal → k ≡ decodeRefusal M w
-    decode-number o e = opened-number E (decodeRefusal M w) (B .stateOf w) o e
+    decode-number o e = opening.decode-number E M (B .stateOf) w o e
 
     pub sound-number : {k : ℕ} → k ≡ decodeRefusal M w → eqb k 0 ≡ isSound M w
     unfolding machineOf
-    sound-number e = rw e (sym (sound-decodes M w refl))
+    sound-number = opening.sound-number E M (B .stateOf) w refl
 
     -- a fresh start is sound
     pub fresh-sound : startRefusal M w ≡ 0 → isSound M (startedWords M w) ≡ true

@@ -1,6 +1,6 @@
 // What a call on one block brings, and what it answers. Answers are made here and nowhere else.
 ghost use mathlib.Core.Path.{_≡_};
-ghost use Rattle.dynamics.specs.Answer.{silent, emitted, updated, realOutput, booleanOutput, bothOutputs, lengthOf};
+ghost use Rattle.dynamics.specs.Answer.{silent, ticked, emitted, updated, realOutput, booleanOutput, bothOutputs, lengthOf};
 
 // What a tick brings besides its time; a block reads as many words as it has inputs.
 pub struct Inputs {
@@ -35,14 +35,22 @@ pub fn silent(refusal: u64) -> Answer
     }
 }
 
-// An accepted emit of a real and a boolean output.
-pub fn both_answer(real: f64, boolean: bool) -> Answer
-    ensures { λ r. ⌜ r ≡ emitted (bothOutputs real boolean) ⌝ }
+// A whole tick: an emit's outputs, and an update's warning.
+pub fn tick_answer(real: f64, boolean: bool, warning: bool) -> Answer
+    ensures { λ r. ⌜ r ≡ ticked (bothOutputs real boolean) warning ⌝ }
 {
     let mut answer = silent(0);
     answer.real = real;
     answer.boolean = boolean;
+    answer.warning = warning;
     answer
+}
+
+// An accepted emit of a real and a boolean output.
+pub fn both_answer(real: f64, boolean: bool) -> Answer
+    ensures { λ r. ⌜ r ≡ emitted (bothOutputs real boolean) ⌝ }
+{
+    tick_answer(real, boolean, false)
 }
 
 // An accepted emit of a real output.
@@ -63,9 +71,7 @@ pub fn boolean_answer(boolean: bool) -> Answer
 pub fn warning_answer(warning: bool) -> Answer
     ensures { λ r. ⌜ r ≡ updated warning ⌝ }
 {
-    let mut answer = silent(0);
-    answer.warning = warning;
-    answer
+    tick_answer(0.0, false, warning)
 }
 
 // A state length, if the settings are accepted.

@@ -13,6 +13,7 @@ pub use call::both_answer;
 pub use call::length_answer;
 pub use call::real_answer;
 pub use call::silent;
+pub use call::tick_answer;
 pub use call::warning_answer;
 pub use leaf::Timed;
 pub use leaf::first_order_filter_implicit;

@@ -12,7 +12,8 @@ use Rattle.dynamics.specs.Machine.{Machine, startRefusal, tickRefusal, startedW
 use Rattle.dynamics.specs.Stepped.{machineOf}
 use Rattle.dynamics.specs.declared.call.Inputs.{Inputs}
 use Rattle.dynamics.specs.declared.previous.Previous.the-variants.{Unset}
-use Rattle.dynamics.proofs.Steps.{Enum, Opens}
+use Rattle.dynamics.proofs.Opening.{Enum}
+use Rattle.dynamics.proofs.Steps.{Opens}
 use Rattle.hold.specs.Hold.{stateOf, wordsOf, initial, holdOf, bare, opened, zeros, reads}
 use Rattle.hold.specs.declared.State.{State}
 use Rattle.hold.specs.declared.Decoded.{Decoded}

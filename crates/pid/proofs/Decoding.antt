@@ -10,7 +10,8 @@ use lib.Ieee.{ofBits}
 use Rattle.dynamics.specs.Previous.{previousOf}
 use Rattle.dynamics.specs.Region.{stored}
 use Rattle.dynamics.specs.declared.previous.Previous.the-variants.{Unset}
-use Rattle.dynamics.proofs.Steps.{Enum, Opens}
+use Rattle.dynamics.proofs.Opening.{Enum}
+use Rattle.dynamics.proofs.Steps.{Opens}
 use Rattle.controller.specs.declared.config.ControllerType.{ControllerType}
 use Rattle.controller.specs.declared.config.ControllerType.the-variants.{P, Pi, Pd, Pid}
 use Rattle.controller.specs.declared.config.ControllerConfig.{ControllerConfig}

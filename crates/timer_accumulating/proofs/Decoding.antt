@@ -7,7 +7,8 @@ use lib.ListN.{length}
 use lib.Ieee.{ofBits}
 use Rattle.dynamics.specs.Previous.{previousOf}
 use Rattle.dynamics.specs.declared.previous.Previous.the-variants.{Unset}
-use Rattle.dynamics.proofs.Steps.{Enum, Opens}
+use Rattle.dynamics.proofs.Opening.{Enum}
+use Rattle.dynamics.proofs.Steps.{Opens}
 use Rattle.timer_accumulating.specs.TimerAccumulating.{stateOf, wordsOf, initial, block, zeros, reads}
 use Rattle.timer_accumulating.specs.declared.TimerAccumulating.{TimerAccumulating}
 use Rattle.timer_accumulating.specs.declared.state.State.{State}

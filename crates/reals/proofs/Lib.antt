@@ -7,4 +7,5 @@ pub mod Sums
 pub mod Magnitude
 pub mod Cut
 pub mod Whole
+pub mod Counts
 pub mod Meaning

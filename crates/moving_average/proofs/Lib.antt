@@ -1,0 +1,7 @@
+pub mod Places
+pub mod Walks
+pub mod Writes
+pub mod Decoding
+pub mod Steps
+pub mod Rules
+pub mod OneResult

@@ -1,0 +1,147 @@
+-- What an accepted tick leaves, as document 01 says it: the length, the start time's word, the coalesced word and the warning. And a fresh start is sound. Assumes nothing.
+use mathlib.Core.Path.{_≡_, refl, sym, ap, _∙_}
+use mathlib.Core.Bool.{Bool, true, false, not, _&&_, _||_, cond}
+use mathlib.Core.List.{List, _∷_}
+use Prim.Native.Nat.{ℕ, zero, suc, _+_, _-_, _*_, _≤_, _<_}
+use native.Mathlib.Omega.{arith}
+use borrow.Author.Tests.{eqb-true, leb-false, ne-eqb, lt-ltb, le-leb}
+use lib.Dec.{T, eqb, leb}
+use lib.ListN.{length, getD, set, drop, replicate, length-set, length-drop, length-replicate}
+use lib.Seq.{getD-set-other}
+use lib.Ieee.{Float, binary64, fits}
+use Rattle.reals.specs.Words.{realOf, wordOf}
+use Rattle.dynamics.specs.Previous.{isFirst, previousOf}
+use Rattle.dynamics.specs.Answer.{refusalOf}
+use Rattle.dynamics.specs.declared.previous.Previous.the-variants.{At}
+use Rattle.dynamics.specs.Leaves.{rising}
+use Rattle.dynamics.specs.Machine.{startRefusal, startedWords, isSound, tickRefusal}
+use Rattle.dynamics.specs.declared.call.Inputs.{Inputs}
+use Rattle.dynamics.proofs.Times.{previous-back}
+use Rattle.dynamics.proofs.Calls.{start-sound, tick-settings, tick-sized, tick-time}
+use Rattle.window.specs.Geometry.{geometryOf}
+use Rattle.window.proofs.Sizes.{capacity-least, length-is}
+use Rattle.moving_average.specs.Ring.{Stands, Holds, timePlace, muPlace, timeWord}
+use Rattle.moving_average.specs.Average.{pruned, isCrowded, after, over, placeOf, written}
+use Rattle.moving_average.specs.MovingAverage.{stateOf, ringOf, decodable, fresh, muNow, ringAt, placeAt, warningOf, startWord, latch, stepOf, afterOf, machineFor, machine}
+use Rattle.moving_average.specs.declared.MovingAverage.{MovingAverage}
+use Rattle.moving_average.specs.declared.ring.Ring.{Ring}
+use Rattle.moving_average.specs.declared.store.Step.{Step}
+use Rattle.moving_average.proofs.Places.{time-within, mu-within}
+use Rattle.moving_average.proofs.Walks.{pruned-holds}
+use Rattle.moving_average.proofs.Decoding.{holds}
+
+-- ---- what a step writes
+module _ (r : List ℕ) (s : Step) (h : Holds r (s .ring)) where
+  abbrev front : List ℕ
+  front = s .mu ∷ s .«t_start» ∷ s .time ∷ s .ring .head ∷ s .place .count ∷ s .coalesced ∷ drop 6 r
+
+  written-length : length (written r s) ≡ length r
+  unfolding written
+  written-length = simp (length-set, length-drop) (omega (arith, h .size))
+
+  -- the point's words lie past the first six
+  written-front : (k : ℕ) → k < 6 → getD (written r s) k 0 ≡ getD front k 0
+  unfolding written
+  written-front k inside =
+      let n = s .place .position in
+      let t = time-within (s .ring) (h .stands) n in
+      let m = mu-within (s .ring) (h .stands) n in
+      getD-set-other (set front (timePlace (s .ring) n) (s .time)) (muPlace (s .ring) n) k (s .mu) 0 (λ e. omega arith)
+      ∙ getD-set-other front (timePlace (s .ring) n) k (s .time) 0 (λ e. omega arith)
+
+-- ---- the count with the tick's point
+crowded-full : (r : List ℕ) (g : Ring) (res t : Float) → isCrowded r g res t ≡ false → g .count < g .capacity
+unfolding isCrowded
+crowded-full r g res t e = leb-false (g .capacity) (g .count) (left (leb (g .capacity) (g .count)) _ e)
+  where
+    left : (a c : Bool) → a || c ≡ false → a ≡ false
+    left true c h = h
+    left false c h = refl
+
+place-count : (r : List ℕ) (g : Ring) (res t : Float) → Stands g → placeOf r g res t .count ≤ g .capacity
+unfolding placeOf
+place-count r g res t s = go (eqb (g .count) 0) (eqb (timeWord r g (g .count - 1)) (wordOf t)) (isCrowded r g res t) refl refl
+  where
+    go : (x y z : Bool) → eqb (g .count) 0 ≡ x → isCrowded r g res t ≡ z
+        → cond x (after g) (cond y (over g false) (cond z (over g true) (after g))) .count ≤ g .capacity
+    go true y z e c = let n = eqb-true (g .count) 0 e in omega (arith, s .first)
+    go false true z e c = s .counted
+    go false false true e c = s .counted
+    go false false false e c = omega (arith, crowded-full r g res t c)
+
+-- ---- an accepted tick
+turned : (old : ℕ) (b : Bool) → rising b (not (eqb old 0)) ≡ eqb old 0 && eqb (latch old (rising b (not (eqb old 0)))) 1
+turned zero true = refl
+turned zero false = refl
+turned (suc n) b = simp (ne-eqb (suc n) 0 (λ z. omega arith))
+
+module _ (b : MovingAverage) (time : Float) (i : Inputs) (w : List ℕ) (ok : tickRefusal (machine b) time w ≡ 0) where
+  abbrev left : List ℕ
+  left = machine b .after w time i
+
+  abbrev warning : Bool
+  warning = machine b .warns w time i
+
+  abbrev step : Step
+  step = stepOf (geometryOf (b .delta)) w (stateOf w) time (muNow (stateOf w) time (realOf (i .first)))
+
+  ring-holds : Holds w (step .ring)
+  unfolding stepOf ringAt
+  ring-holds = pruned-holds w _ _ (holds b time i w ok)
+
+  -- the region keeps its length
+  pub tick-length : length left ≡ length w
+  unfolding machineFor afterOf
+  tick-length = written-length w step ring-holds
+
+  -- the start time's word is written on the first tick alone
+  pub start-word : getD left 1 0 ≡ startWord (getD w 1 0) (isFirst (stateOf w .previous)) time
+  unfolding machineFor afterOf stepOf
+  start-word = written-front w step ring-holds 1 (omega arith)
+
+  -- the coalesced word is written with the warning alone
+  pub coalesced-word : getD left 5 0 ≡ latch (getD w 5 0) warning
+  unfolding machineFor afterOf stepOf
+  coalesced-word = written-front w step ring-holds 5 (omega arith)
+
+  -- the warning is true exactly on the call that turns the coalesced word from 0 to 1
+  pub warning-exactly : warning ≡ eqb (getD w 5 0) 0 && eqb (getD left 5 0) 1
+  unfolding machineFor warningOf stateOf
+  warning-exactly = turned (getD w 5 0) (placeAt (geometryOf (b .delta)) w (stateOf w) time .coalesced) ∙ ap (λ (n : ℕ). eqb (getD w 5 0) 0 && eqb n 1) (sym coalesced-word)
+
+  -- what it leaves is sound: the previous time is this tick's, and head and count lie within the capacity
+  previous-after : T (fits binary64 time) → stateOf left .previous ≡ At time
+  unfolding machineFor afterOf stepOf stateOf
+  previous-after f = ap previousOf (written-front w step ring-holds 2 (omega arith)) ∙ previous-back time f
+
+  head-after : stateOf left .head < geometryOf (b .delta) .capacity
+  unfolding machineFor afterOf stepOf stateOf ringAt pruned
+  head-after = rw (written-front w step ring-holds 3 (omega arith)) (ring-holds .stands .first)
+
+  count-after : stateOf left .count ≤ geometryOf (b .delta) .capacity
+  unfolding machineFor afterOf stepOf stateOf ringAt placeAt pruned
+  count-after = rw (written-front w step ring-holds 4 (omega arith)) (place-count w (step .ring) _ time (ring-holds .stands))
+
+  decodes-after : T (fits binary64 time) → machine b .sound left ≡ true
+  unfolding machineFor decodable
+  decodes-after f = rw (previous-after f, tick-time (machine b) time i w ok, lt-ltb _ _ head-after, le-leb _ _ count-after)
+
+  pub tick-sound : T (fits binary64 time) → isSound (machine b) left ≡ true
+  unfolding isSound refusalOf
+  tick-sound f = rw (tick-settings (machine b) time i w ok, tick-length, tick-sized (machine b) time i w ok, decodes-after f)
+
+-- ---- a start
+fresh-length : (b : MovingAverage) → length (machine b .fresh) ≡ machine b .size
+unfolding machineFor fresh
+fresh-length b = simp length-replicate (omega (arith, length-is (b .delta)))
+
+fresh-decodes : (b : MovingAverage) → machine b .sound (machine b .fresh) ≡ true
+unfolding machineFor fresh decodable stateOf previousOf
+fresh-decodes b =
+    let cap = geometryOf (b .delta) .capacity in
+    let three : 3 + 2 * cap ≡ suc (suc (suc (2 * cap))) = omega arith in
+    rw (three, lt-ltb 0 cap (omega (arith, capacity-least (b .delta))), le-leb 0 cap (omega arith))
+
+-- a fresh start is sound
+pub fresh-sound : (b : MovingAverage) (w : List ℕ) → startRefusal (machine b) w ≡ 0 → isSound (machine b) (startedWords (machine b) w) ≡ true
+fresh-sound b w z = start-sound (machine b) w (fresh-length b) (fresh-decodes b) z

@@ -13,6 +13,7 @@ use Rattle.timer_accumulating.specs.declared.TimerAccumulating.{TimerAccumulati
 use Rattle.true_delay.specs.declared.TrueDelay.{TrueDelay}
 use Rattle.true_false_hold.specs.declared.TrueFalseHold.{TrueFalseHold}
 use Rattle.true_hold_with_reset.specs.declared.TrueHoldWithReset.{TrueHoldWithReset}
+use Rattle.moving_average.specs.declared.MovingAverage.{MovingAverage}
 use Rattle.controller.specs.declared.config.ControllerType.{ControllerType}
 use Rattle.controller.specs.declared.config.ControllerType.the-variants.{P, Pi, Pd, Pid}
 use Rattle.controller.specs.declared.config.ControllerConfig.{ControllerConfig}
@@ -48,6 +49,9 @@ trueFalseHold x y = record { «true_hold_duration» = realOf x; «false_hold_dur
 
 unfoldable pub trueHoldWithReset : ℕ → TrueHoldWithReset
 trueHoldWithReset x = record { duration = realOf x }
+
+unfoldable pub movingAverage : ℕ → MovingAverage
+movingAverage x = record { delta = realOf x }
 
 -- a controller's words: its type (0 P, 1 PI, 2 PD, 3 PID), then its eleven numbers and the direction as the settings have them
 abbrev pub controllerTypeOf : ℕ → ControllerType

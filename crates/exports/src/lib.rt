@@ -1,5 +1,6 @@
 // The library for C and Rust: every real goes in and comes out as its word, so that a NaN has one pattern.
 pub mod accumulating;
+pub mod average;
 pub mod boundary;
 pub mod controllers;
 pub mod delay;

@@ -9,7 +9,7 @@ use Kind::*;
 use oce_blocks::{Block, Ctx, NoopDiagnostics, access};
 use oce_model::Value;
 
-/// A started block with its region.
+/// A block with its region.
 pub trait Ticking {
     /// An emit, then an update.
     fn tick(&mut self, time: f64, inputs: &[u64; 3]);
@@ -22,7 +22,7 @@ pub struct Case {
     pub settings: Vec<u64>,
     /// Ticks a second.
     rate: f64,
-    /// Ticks before the measurement.
+    /// Ticks before the measurement, from a fresh start.
     warm: u64,
     /// If not 0: time emits alone, this many seconds after the last tick, in the place of ticks.
     ahead: f64,
@@ -112,6 +112,38 @@ impl Case {
         n as f64 / self.rate
     }
 
+    /// The region that the ticks before the measurement leave.
+    #[must_use]
+    pub fn region(&self) -> Vec<u64> {
+        let oracle = Oracle::new(self.kind, &self.settings);
+        let mut region = oracle.started();
+        if self.kind == MovingAverage {
+            self.put_points(&mut region);
+        } else {
+            for n in 0..self.warm {
+                oracle.update(self.time(n), &self.inputs(n), &mut region);
+            }
+        }
+        region
+    }
+
+    /// Writes what the ticks of a moving average leave, a point for each: they are far apart. A tool that logs each
+    /// instruction cannot wait for the ticks.
+    fn put_points(&self, region: &mut [u64]) {
+        let (delta, capacity) = (f64::from_bits(self.settings[0]), (region.len() - 6) / 2);
+        let (mut mu, mut previous) = (0.0, 0.0);
+        for n in 0..self.warm {
+            let (t, u) = (self.time(n), f64::from_bits(self.inputs(n)[0]));
+            mu += u * (t - previous);
+            let slot = n as usize % capacity;
+            (region[6 + slot], region[6 + capacity + slot]) = (t.to_bits(), mu.to_bits());
+            previous = t;
+        }
+        let first = ((previous - delta) * self.rate) as u64;
+        (region[0], region[2]) = (mu.to_bits(), previous.to_bits());
+        (region[3], region[4]) = (first % capacity as u64, self.warm - first);
+    }
+
     /// How many ticks, or emits of a walk, make a measurement.
     #[must_use]
     pub fn measured(&self) -> u64 {
@@ -122,11 +154,8 @@ impl Case {
         }
     }
 
-    /// Nanoseconds a tick, or an emit of a walk, over so many of them, from a fresh start.
+    /// Nanoseconds a tick, or an emit of a walk, over so many of them, on the case's region.
     pub fn nanoseconds(&self, block: &mut impl Ticking, ticks: u64) -> f64 {
-        for n in 0..self.warm {
-            block.tick(self.time(n), &self.inputs(n));
-        }
         let began = Instant::now();
         for n in self.warm..self.warm + ticks {
             if self.ahead > 0.0 {
@@ -152,7 +181,7 @@ impl Published {
         Published {
             kind: case.kind,
             block: access::block(case.kind, &case.settings),
-            region: Oracle::new(case.kind, &case.settings).started(),
+            region: case.region(),
         }
     }
 
@@ -178,5 +207,24 @@ impl Ticking for Published {
         let ctx = Ctx::new(time, &NoopDiagnostics);
         self.block
             .update_state(&ctx, &values[..count], &mut self.region);
+    }
+}
+
+#[cfg(test)]
+mod tests {
+    use super::*;
+
+    #[test]
+    fn an_average_has_the_points_of_its_ticks() {
+        let averages = cases().into_iter().filter(|c| c.kind == MovingAverage);
+        for case in averages {
+            let oracle = Oracle::new(case.kind, &case.settings);
+            let mut region = oracle.started();
+            for n in 0..case.warm {
+                let updated = oracle.update(case.time(n), &case.inputs(n), &mut region);
+                assert!(!updated.warning);
+            }
+            assert!(case.region() == region, "{}", case.name);
+        }
     }
 }

@@ -1,5 +1,5 @@
-//! The program that compares calls with the Rust: `N SEED [BLOCK | PART/PARTS]`, N runs of each block, of one
-//! or of a part of them, so that two cores can share them. A run is twelve ticks.
+//! The program that compares calls with the Rust: `N SEED [[not] BLOCK]`, N runs of each block, of one or of all but one,
+//! which may need another number of runs. A run is twelve ticks.
 use crate::compare::compare;
 use crate::tally::expected_classes;
 use crate::{Calls, Kind};
@@ -8,10 +8,11 @@ use crate::{Calls, Kind};
 #[must_use]
 pub fn run(subject: &Calls, blocks: &[Kind]) -> i32 {
     let args: Vec<String> = std::env::args().skip(1).collect();
+    let args: Vec<&str> = args.iter().map(String::as_str).collect();
     let number = |n: usize| args.get(n).and_then(|a| a.parse::<u64>().ok());
-    let kinds = chosen(blocks, args.get(2).map(String::as_str));
+    let kinds = chosen(blocks, args.get(2..).unwrap_or(&[]));
     let (Some(runs), Some(seed), false) = (number(0), number(1), kinds.is_empty()) else {
-        eprintln!("usage: N SEED [BLOCK | PART/PARTS]");
+        eprintln!("usage: N SEED [[not] BLOCK]");
         return 2;
     };
     let (mut passed, mut calls) = (0, 0);
@@ -26,17 +27,18 @@ pub fn run(subject: &Calls, blocks: &[Kind]) -> i32 {
     i32::from(passed < kinds.len())
 }
 
-/// All blocks, the one of a name, or of so many parts the one with this number: 1/2 is the first, third, fifth.
-fn chosen(blocks: &[Kind], choice: Option<&str>) -> Vec<Kind> {
-    let part = choice.and_then(|text| text.split_once('/'));
-    let part = part.and_then(|(n, of)| Some((n.parse::<usize>().ok()?, of.parse::<usize>().ok()?)));
-    let asked = |&(n, kind): &(usize, Kind)| match (choice, part) {
-        (None, _) => true,
-        (_, Some((part, parts))) => parts > 0 && n % parts + 1 == part,
-        (Some(name), None) => kind.name() == name,
-    };
-    let kinds = blocks.iter().copied().enumerate().filter(asked);
-    kinds.map(|(_, kind)| kind).collect()
+/// All blocks, the one of a name, or all but that one; none if no block has the name.
+fn chosen(blocks: &[Kind], choice: &[&str]) -> Vec<Kind> {
+    let named = |name: &str| blocks.iter().find(|kind| kind.name() == name);
+    match choice {
+        [] => blocks.to_vec(),
+        [name] => named(name).copied().into_iter().collect(),
+        ["not", name] if named(name).is_some() => {
+            let others = blocks.iter().filter(|kind| kind.name() != *name);
+            others.copied().collect()
+        }
+        _ => vec![],
+    }
 }
 
 #[cfg(test)]
@@ -46,20 +48,19 @@ mod tests {
     const THREE: [Kind; 3] = [Kind::Pid, Kind::TrueDelay, Kind::MovingAverage];
 
     #[test]
-    fn parts_are_all_blocks() {
-        let parts = ["1/2", "2/2"].map(|part| chosen(&THREE, Some(part)));
+    fn a_block_and_the_others_are_all() {
+        assert_eq!(chosen(&THREE, &[]), THREE);
+        assert_eq!(chosen(&THREE, &["TrueDelay"]), [Kind::TrueDelay]);
         assert_eq!(
-            parts,
-            [vec![Kind::Pid, Kind::MovingAverage], vec![Kind::TrueDelay]]
+            chosen(&THREE, &["not", "TrueDelay"]),
+            [Kind::Pid, Kind::MovingAverage]
         );
-        assert_eq!(chosen(&THREE, None), THREE);
     }
 
     #[test]
     fn a_choice_that_names_nothing_is_empty() {
-        for choice in ["0/2", "3/2", "1/0", "1/x", "Pid/1", "", "Timer"] {
-            assert_eq!(chosen(&THREE, Some(choice)), []);
+        for choice in [&["Timer"][..], &["not"], &["not", "Timer"], &["Pid", "Pid"]] {
+            assert_eq!(chosen(&THREE, choice), []);
         }
-        assert_eq!(chosen(&THREE, Some("TrueDelay")), [Kind::TrueDelay]);
     }
 }

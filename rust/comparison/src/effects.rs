@@ -1,13 +1,16 @@
 //! What an accepted update did, by the words before and after it.
 use crate::Kind;
 use crate::model::leaves::UNSET;
-use crate::tally::Class;
+use crate::ring_classes;
+use crate::tally::{Class, met};
 
 /// The classes of an update but for its warning.
 pub fn effects(kind: Kind, s: &[u64], inputs: &[u64], before: &[u64], after: &[u64]) -> Vec<Class> {
     let mut classes = vec![];
     if kind == Kind::MovingAverage {
         classes = ring_effects((before[3], before[4]), after);
+        let met = ring_classes::accepted(s, before, after);
+        classes.extend(met.into_iter().map(Class::Ring));
     }
     let times = kind.time_place(s).map(|n| (before[n], after[n]));
     let first = times.is_some_and(|(previous, _)| previous == UNSET);
@@ -31,10 +34,13 @@ pub fn effects(kind: Kind, s: &[u64], inputs: &[u64], before: &[u64], after: &[u
     classes
 }
 
-/// The classes that are met.
-fn met<const N: usize>(classes: [(Class, bool); N]) -> impl Iterator<Item = Class> {
-    let met = classes.into_iter().filter(|(_, is_met)| *is_met);
-    met.map(|(class, _)| class)
+/// The classes of a refusal beside its number.
+pub fn faults(kind: Kind, refused: u64, s: &[u64], region: &[u64]) -> Vec<Class> {
+    let damage = match (kind, refused) {
+        (Kind::MovingAverage, 6) => ring_classes::damage(s, region),
+        _ => None,
+    };
+    damage.into_iter().map(Class::Ring).collect()
 }
 
 const ZERO: u64 = 0;
@@ -91,13 +97,11 @@ fn is_wiping(kind: Kind, s: &[u64], inputs: &[u64], before: &[u64]) -> bool {
 
 /// What happened to a moving average's ring, by head and count before and the region after.
 pub fn ring_effects((head, count): (u64, u64), after: &[u64]) -> Vec<Class> {
-    let capacity = (after.len() as u64 - 6) / 2;
     let (pruned, grew) = (after[3] != head, after[4] > count);
     met([
         (Class::Pruned, pruned),
         (Class::Appended, grew),
         (Class::Overwritten, !pruned && !grew),
-        (Class::FullRing, after[4] == capacity),
     ])
     .collect()
 }

@@ -13,6 +13,8 @@ pub mod inputs;
 pub mod leaves;
 pub mod model;
 pub mod oracle;
+mod ring;
+pub mod ring_classes;
 pub mod sessions;
 pub mod soak;
 pub mod stored;

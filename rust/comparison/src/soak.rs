@@ -47,7 +47,8 @@ fn texts(line: &[u8]) -> Option<Vec<&[u8]>> {
 }
 
 /// The lines: a line feed ends one, and the last may lack it.
-fn lines(input: &[u8]) -> Vec<&[u8]> {
+#[must_use]
+pub fn lines(input: &[u8]) -> Vec<&[u8]> {
     let mut lines: Vec<&[u8]> = input.split(|b| *b == b'\n').collect();
     if lines.last().is_some_and(|line| line.is_empty()) {
         lines.pop();
@@ -55,26 +56,34 @@ fn lines(input: &[u8]) -> Vec<&[u8]> {
     lines
 }
 
-/// The block and its settings.
-fn first_line(line: &[u8]) -> Option<(Kind, Vec<u64>)> {
+/// The block and its settings, whatever its state's length.
+#[must_use]
+pub fn block_line(line: &[u8]) -> Option<(Kind, Vec<u64>)> {
     let texts = texts(line)?;
     let (name, rest) = texts.split_first()?;
     let kind = Kind::named(std::str::from_utf8(name).ok()?)?;
-    let s = words(kind.settings(), rest)?;
+    Some((kind, words(kind.settings(), rest)?))
+}
+
+/// The block and its settings, if `soak` has room for it.
+fn first_line(line: &[u8]) -> Option<(Kind, Vec<u64>)> {
+    let (kind, s) = block_line(line)?;
     let delta = f64::from_bits(s[0]);
     let too_long = kind == Kind::MovingAverage && delta.is_finite() && delta > LONGEST_DELTA;
     (!too_long).then_some((kind, s))
 }
 
 /// The time and the inputs of a later line.
-fn tick_line(kind: Kind, line: &[u8]) -> Option<(u64, Vec<u64>)> {
+#[must_use]
+pub fn tick_line(kind: Kind, line: &[u8]) -> Option<(u64, Vec<u64>)> {
     let texts = texts(line)?;
     let (time, inputs) = texts.split_first()?;
     Some((real(time)?, words(kind.inputs(), inputs)?))
 }
 
 /// The outputs as they are written.
-fn outputs(kind: Kind, answer: &Answer) -> String {
+#[must_use]
+pub fn outputs(kind: Kind, answer: &Answer) -> String {
     let output = |item| match item {
         b'r' => format!("{:016X}", answer.real),
         _ => u64::from(answer.boolean).to_string(),

@@ -1,6 +1,7 @@
 //! What a comparison met and found. One that did not meet what it should has failed.
 use std::collections::BTreeMap;
 
+use crate::ring_classes::{self, RingClass};
 use crate::{Answer, Kind};
 
 /// A sort of call, answer or effect.
@@ -19,7 +20,8 @@ pub enum Class {
     Pruned,
     Appended,
     Overwritten,
-    FullRing,
+    /// What a moving average's window and ring met.
+    Ring(RingClass),
     /// A gap from a set previous time that is infinite.
     InfiniteGap,
     /// A controller of this type, as its setting counts them.
@@ -112,6 +114,12 @@ impl Tally {
     }
 }
 
+/// The classes that are met.
+pub(crate) fn met<C, const N: usize>(classes: [(C, bool); N]) -> impl Iterator<Item = C> {
+    let met = classes.into_iter().filter(|(_, is_met)| *is_met);
+    met.map(|(class, _)| class)
+}
+
 /// What a comparison of this block call by call must meet.
 #[must_use]
 pub fn expected_classes(kind: Kind) -> Vec<Class> {
@@ -131,7 +139,10 @@ pub fn expected_classes(kind: Kind) -> Vec<Class> {
     }
     match kind {
         Kind::PidWithReset => wanted.extend([Wiping, NanReset, ZeroReset(false), ZeroReset(true)]),
-        Kind::MovingAverage => wanted.extend([Warning, Pruned, Appended, Overwritten, FullRing]),
+        Kind::MovingAverage => {
+            wanted.extend([Warning, Pruned, Appended, Overwritten]);
+            wanted.extend(ring_classes::all().into_iter().map(Ring));
+        }
         Kind::Pid | Kind::TrueFalseHold | Kind::LogicalVariablePulse => {}
         _ => wanted.push(Wiping),
     }

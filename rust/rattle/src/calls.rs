@@ -2,12 +2,13 @@
 use comparison::{Answer, Calls, Kind};
 
 use crate::block::Block;
-use crate::{controllers, timers};
+use crate::{averages, controllers, timers};
 
 /// The blocks that are proved.
-pub const BLOCKS: [Kind; 6] = [
+pub const BLOCKS: [Kind; 7] = [
     Kind::Pid,
     Kind::PidWithReset,
+    Kind::MovingAverage,
     Kind::TimerAccumulating,
     Kind::TrueDelay,
     Kind::TrueFalseHold,
@@ -20,11 +21,12 @@ pub fn block(kind: Kind) -> Option<&'static Block> {
     match kind {
         Kind::Pid => Some(&controllers::PID),
         Kind::PidWithReset => Some(&controllers::PID_WITH_RESET),
+        Kind::MovingAverage => Some(&averages::MOVING_AVERAGE),
         Kind::TimerAccumulating => Some(&timers::TIMER_ACCUMULATING),
         Kind::TrueDelay => Some(&timers::TRUE_DELAY),
         Kind::TrueFalseHold => Some(&timers::TRUE_FALSE_HOLD),
         Kind::TrueHoldWithReset => Some(&timers::TRUE_HOLD_WITH_RESET),
-        Kind::MovingAverage | Kind::LogicalVariablePulse => None,
+        Kind::LogicalVariablePulse => None,
     }
 }
 
@@ -63,18 +65,17 @@ fn three(inputs: &[u64]) -> &[u64; 3] {
     inputs.try_into().expect("three inputs")
 }
 
-const GUARD: u64 = 0x5EED_0F60_4A4D_5EED;
-const MARGIN: usize = 8;
+/// Words around a region that no call may write.
+const GUARD: [u64; 8] = [0x5EED_0F60_4A4D_5EED; 8];
 
 /// A call on a copy of the region between guard words, which must stay.
 fn guarded<T>(region: &mut [u64], call: impl FnOnce(&mut [u64]) -> T) -> T {
-    let mut buffer = vec![GUARD; region.len() + 2 * MARGIN];
-    let inner = MARGIN..MARGIN + region.len();
-    buffer[inner.clone()].copy_from_slice(region);
+    let mut buffer = [&GUARD, &*region, &GUARD].concat();
+    let inner = GUARD.len()..GUARD.len() + region.len();
     let answer = call(&mut buffer[inner.clone()]);
-    region.copy_from_slice(&buffer[inner.clone()]);
-    let around = buffer[..inner.start].iter().chain(&buffer[inner.end..]);
-    assert!(around.copied().all(|w| w == GUARD), "a guard word changed");
+    region.copy_from_slice(&buffer[inner]);
+    let stay = buffer.starts_with(&GUARD) && buffer.ends_with(&GUARD);
+    assert!(stay, "a guard word changed");
     answer
 }
 

@@ -1,4 +1,5 @@
 //! The proved library, linked. Nothing checks these declarations against crates/exports: the tests do.
+mod averages;
 pub mod bench_rows;
 mod block;
 mod calls;

@@ -1,14 +1,15 @@
 //! The proved blocks against the ported Rust, and against the stored answers.
 use comparison::compare::compare;
 use comparison::stored::stored;
-use comparison::tally::expected_classes;
 use rattle::{BLOCKS, CALLS};
 
+/// A short look: the program `differ_proved` makes the long comparison, which must meet every class.
 #[test]
 fn the_proved_blocks_are_the_published_ones() {
     for kind in BLOCKS {
-        let tally = compare(&CALLS, kind, 2_000, 9);
-        assert!(tally.report(&kind.name(), &expected_classes(kind)));
+        let tally = compare(&CALLS, kind, 200, 9);
+        assert_eq!(tally.differences, Vec::<String>::new(), "{kind:?}");
+        assert!(tally.calls() > 0, "{kind:?}");
     }
 }
 

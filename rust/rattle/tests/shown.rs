@@ -1,6 +1,7 @@
-//! What docs/TIMERS.md and docs/CONTROLLER.md show is what the proved blocks give.
-use rattle::bench_rows;
+//! What docs/TIMERS.md, docs/CONTROLLER.md and docs/MOVING-AVERAGE.md show is what the proved blocks give.
+use comparison::Kind;
 use rattle::shown::EXAMPLES;
+use rattle::{CALLS, bench_rows, run};
 
 fn page(name: &str) -> String {
     let folder = concat!(env!("CARGO_MANIFEST_DIR"), "/../../docs/");
@@ -19,4 +20,56 @@ fn the_timers_page_shows_the_runs() {
 fn the_controllers_page_shows_the_bench_rows() {
     let table = bench_rows::table();
     assert!(page("CONTROLLER.md").contains(&table), "{table}");
+}
+
+/// Delta, and time and input of each tick: row P8 and one tick more, then ticks that come too close.
+const AVERAGES: [(f64, &[(f64, f64)]); 2] = [
+    (2.0, &[(0.0, 3.0), (1.0, 3.0), (2.0, 3.0), (4.0, 5.0)]),
+    (
+        1024.0,
+        &[
+            (-0.0, 20.0),
+            (0.0, 20.0),
+            (0.4, 20.0),
+            (0.8, 30.0),
+            (1.2, 20.0),
+            (1.6, 40.0),
+            (1.6, 50.0),
+        ],
+    ),
+];
+
+/// A tick's row as far as its answer and the words ahead of the ring go: time, input, output, head, count, word 5, warning.
+#[test]
+fn the_averages_page_shows_the_runs() {
+    let page = page("MOVING-AVERAGE.md");
+    for (delta, ticks) in AVERAGES {
+        let words = ticks.iter().map(|(t, u)| (*t, [u.to_bits(), 0, 0]));
+        let left = run(
+            Kind::MovingAverage,
+            &[delta.to_bits()],
+            &words.collect::<Vec<_>>(),
+        );
+        for ((t, u), (answer, w)) in ticks.iter().zip(left) {
+            let warns = if answer.warning { "yes" } else { "no" };
+            let y = f64::from_bits(answer.real);
+            let row = format!(
+                "| {t} | {u} | {y:?} | {} | {} | {} | {warns} |",
+                w[3], w[4], w[5]
+            );
+            assert!(page.contains(&row), "{row}");
+        }
+    }
+}
+
+/// The lengths of row P7 among them.
+#[test]
+fn the_averages_page_shows_the_sizes() {
+    let page = page("MOVING-AVERAGE.md");
+    for delta in [2.0f64, 1024.0, 1024.5, 3600.0, 65536.0, 100_000.0] {
+        let (_, length) = (CALLS.state_length)(Kind::MovingAverage, &[delta.to_bits()]);
+        let capacity = (length - 6) / 2;
+        let row = format!("| {delta} | {} | {capacity} | {length} |", capacity - 4);
+        assert!(page.contains(&row), "{row}");
+    }
 }

@@ -1,4 +1,4 @@
-//! Compares the model of document 01 with the Rust call by call: `differ N SEED [BLOCK]`.
+//! Compares the model of document 01 with the Rust call by call: `differ N SEED [[not] BLOCK]`.
 use comparison::{Kind, differ, model};
 
 fn main() {

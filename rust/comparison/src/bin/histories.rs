@@ -1,6 +1,7 @@
 //! Compares what document 01 says over histories with the Rust. `histories N SEED`: N histories of
 //! each block that has a wiping tick and of `TrueFalseHold`, and the long runs of the ring.
 use comparison::histories::{ring, wiping};
+use comparison::model;
 use comparison::tally::{Class, Tally};
 
 /// Prints the line of a statement; says whether it held and met what it should.
@@ -21,7 +22,7 @@ fn main() {
         let wanted = wiping::expected_classes(kind);
         held.push(holds(&kind.name(), histories, &tally, &wanted));
     }
-    let (runs, tally) = ring::compare(seed);
+    let (runs, tally) = ring::compare(&model::CALLS, &ring::WINDOWS, seed);
     held.push(holds("long runs", runs, &tally, &ring::EXPECTED));
     let passed = held.iter().filter(|held| **held).count();
     println!("{passed} passed, {} failed", held.len() - passed);

@@ -1,17 +1,18 @@
-//! Long runs of the moving average from a fresh start: the model and the Rust in step, the ring
-//! kept sound (document 02, request 2), and the halving search (request 7) finding the point that
-//! the walk finds.
+//! Long runs of the moving average from a fresh start: the calls that are compared and the Rust in
+//! step, the ring kept sound (document 02, request 2), and the halving search (request 7) finding
+//! the point that the walk finds.
 use crate::effects::ring_effects;
 use crate::inputs::{self, Rng};
 use crate::model::leaves::{is_finite, real_of};
 use crate::oracle::Oracle;
+use crate::ring::Ring;
 use crate::tally::{Class, Tally};
-use crate::{Kind, model};
+use crate::{Calls, Kind};
 
 const KIND: Kind = Kind::MovingAverage;
 
 /// Windows and the number of ticks of a run over each.
-const WINDOWS: [(f64, u64); 11] = [
+pub const WINDOWS: [(f64, u64); 11] = [
     (0.0, 6000),
     (2.0, 6000),
     (16.0, 9000),
@@ -76,16 +77,16 @@ pub const EXPECTED: [Class; 6] = [
     Class::Nan,
 ];
 
-/// Runs every window at every pace; each run that differs is one difference. Also their number.
+/// Runs these windows at every pace; each run that differs is one difference. Also their number.
 #[must_use]
-pub fn compare(seed: u64) -> (u64, Tally) {
+pub fn compare(subject: &Calls, windows: &[(f64, u64)], seed: u64) -> (u64, Tally) {
     let mut r = Rng::new(seed, 400);
     let mut tally = Tally::default();
     let mut runs = 0;
-    for (delta, ticks) in WINDOWS {
+    for &(delta, ticks) in windows {
         for pace in PACES {
             runs += 1;
-            let mut run = LongRun::new(delta, pace);
+            let mut run = LongRun::new(subject, delta, pace);
             let differs = (0..ticks).find_map(|n| {
                 let whole = n % 64 == 0 || n + 1 == ticks;
                 run.tick(&mut r, n, whole, &mut tally)
@@ -97,9 +98,9 @@ pub fn compare(seed: u64) -> (u64, Tally) {
     (runs, tally)
 }
 
-struct LongRun {
+struct LongRun<'a> {
+    subject: &'a Calls,
     settings: [u64; 1],
-    delta: f64,
     pace: Pace,
     oracle: Oracle,
     time: f64,
@@ -107,16 +108,16 @@ struct LongRun {
     theirs: Vec<u64>,
 }
 
-impl LongRun {
-    fn new(delta: f64, pace: Pace) -> LongRun {
+impl LongRun<'_> {
+    fn new(subject: &Calls, delta: f64, pace: Pace) -> LongRun<'_> {
         let settings = [delta.to_bits()];
         let oracle = Oracle::new(KIND, &settings);
         let theirs = oracle.started();
         let mut mine = vec![7; theirs.len()];
-        model::start(KIND, &settings, &mut mine);
+        (subject.start)(KIND, &settings, &mut mine);
         LongRun {
+            subject,
             settings,
-            delta: delta.max(1e-5),
             pace,
             oracle,
             time: if matches!(pace, Pace::Leaps) {
@@ -137,7 +138,7 @@ impl LongRun {
         let time = self.time;
         let found = self.search();
         let fault = if !self.both(input(r, self.pace), whole, tally) {
-            Some("model and Rust differ")
+            Some("the calls and the Rust differ")
         } else if whole && !self.is_sound() {
             Some("the ring is not sound")
         } else if found.by_walk != found.by_halving || found.looks > MOST_LOOKS {
@@ -145,8 +146,8 @@ impl LongRun {
         } else {
             None
         };
-        let resolution = self.delta / (self.capacity() - 4) as f64;
-        self.time += self.pace.step(r, n, self.delta, resolution);
+        let ring = self.ring();
+        self.time += self.pace.step(r, n, ring.delta, ring.resolution());
         fault.map(|fault| format!("tick {n} at {time}: {fault}"))
     }
 
@@ -157,8 +158,8 @@ impl LongRun {
         let emitted = self.oracle.emit(time, &inputs, &self.theirs);
         let updated = self.oracle.update(time, &inputs, &mut self.theirs);
         let answers = [
-            model::emit(KIND, s, time.to_bits(), &inputs, &self.mine),
-            model::update(KIND, s, time.to_bits(), &inputs, &mut self.mine),
+            (self.subject.emit)(KIND, s, time.to_bits(), &inputs, &self.mine),
+            (self.subject.update)(KIND, s, time.to_bits(), &inputs, &mut self.mine),
         ];
         tally.see(Class::Accepted);
         tally.see(Class::Accepted);
@@ -171,18 +172,14 @@ impl LongRun {
         answers == [emitted, updated] && self.mine[..words] == self.theirs[..words]
     }
 
-    fn capacity(&self) -> u64 {
-        (self.theirs.len() as u64 - 6) / 2
-    }
-
-    /// The time at position n of the ring.
-    fn ring_time(&self, n: u64) -> u64 {
-        self.theirs[6 + ((self.theirs[3] + n) % self.capacity()) as usize]
+    fn ring(&self) -> Ring<'_> {
+        Ring::of(&self.settings, &self.theirs).expect("a started region has one")
     }
 
     /// Ring times finite, none below the one before, none above the previous time.
     fn is_sound(&self) -> bool {
-        let times: Vec<u64> = (0..self.theirs[4]).map(|n| self.ring_time(n)).collect();
+        let ring = self.ring();
+        let times: Vec<u64> = (0..ring.count()).map(|n| ring.time_word(n)).collect();
         let ordered = times.windows(2).all(|p| real_of(p[0]) <= real_of(p[1]));
         let bounded = |t: &u64| is_finite(*t) && real_of(*t) <= real_of(self.theirs[2]);
         ordered && times.iter().all(bounded)
@@ -190,9 +187,9 @@ impl LongRun {
 
     /// The first point at or before which the window's start lies, found in both ways.
     fn search(&self) -> Found {
-        let target = self.time - self.delta;
-        let at_or_before = |n: &u64| target <= real_of(self.ring_time(*n));
-        let count = self.theirs[4];
+        let (ring, count) = (self.ring(), self.ring().count());
+        let target = self.time - ring.delta;
+        let at_or_before = |n: &u64| target <= ring.time(*n);
         let (mut low, mut high, mut looks) = (0, count, 0);
         while low < high {
             let middle = low + (high - low) / 2;

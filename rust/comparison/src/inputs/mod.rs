@@ -4,8 +4,9 @@ mod regions;
 mod rng;
 mod settings;
 mod ticks;
+pub mod wide;
 
-pub use reals::{any_bool, any_real, tame, wild};
+pub use reals::{any_bool, any_real, next_down, next_up, tame, wild};
 pub use regions::region;
 pub use rng::Rng;
 pub use settings::{accepted_settings, bench_controller, settings};

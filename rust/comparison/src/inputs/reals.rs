@@ -78,6 +78,22 @@ pub fn wild(r: &mut Rng) -> f64 {
     if x.is_finite() { x } else { corner }
 }
 
+/// The float next above x, which is not infinite.
+#[must_use]
+pub fn next_up(x: f64) -> f64 {
+    let bits = (x + 0.0).to_bits(); // there is one zero
+    f64::from_bits(if x < 0.0 {
+        bits - 1
+    } else {
+        bits.wrapping_add(1)
+    })
+}
+
+#[must_use]
+pub fn next_down(x: f64) -> f64 {
+    -next_up(-x)
+}
+
 pub(super) fn zero(r: &mut Rng) -> u64 {
     r.below(2) << 63
 }
@@ -104,5 +120,22 @@ pub fn any_bool(r: &mut Rng) -> u64 {
         0 => r.word(),
         1 => 1 << 63,
         n => n & 1,
+    }
+}
+
+#[cfg(test)]
+mod tests {
+    use super::*;
+
+    #[test]
+    fn floats_beside() {
+        for zero in [0.0, -0.0] {
+            assert_eq!([next_down(zero), next_up(zero)], [-5e-324, 5e-324]);
+        }
+        assert_eq!(next_up(-5e-324), 0.0);
+        assert_eq!(next_up(1.0), 1.0 + f64::EPSILON);
+        assert_eq!(next_down(-1.0), -1.0 - f64::EPSILON);
+        assert_eq!(next_down(1.0), 1.0 - f64::EPSILON / 2.0);
+        assert_eq!(next_up(f64::MAX), f64::INFINITY);
     }
 }

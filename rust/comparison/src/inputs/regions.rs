@@ -7,6 +7,23 @@ use crate::{Kind, model};
 /// A region for the settings: one in five freshly started, the rest of any words, one in 25 of a
 /// wrong length.
 pub fn region(r: &mut Rng, kind: Kind, s: &[u64]) -> Vec<u64> {
+    region_with(r, kind, s, any_points)
+}
+
+/// How a ring's points lie: the last one's time, whether those before it are in order, and the unit of their distances.
+pub(super) struct Points {
+    pub last: f64,
+    pub ordered: bool,
+    pub step: f64,
+}
+
+/// Such a region, with the points of a moving average by a generator that is told its settings and its first words.
+pub(super) fn region_with(
+    r: &mut Rng,
+    kind: Kind,
+    s: &[u64],
+    points: fn(&mut Rng, &[u64], &[u64]) -> Points,
+) -> Vec<u64> {
     let (refused, length) = model::state_length(kind, s);
     if refused != 0 {
         return vec![0; r.below(8) as usize];
@@ -19,7 +36,7 @@ pub fn region(r: &mut Rng, kind: Kind, s: &[u64]) -> Vec<u64> {
             w[n] = any_word(r, item);
         }
         if kind == Kind::MovingAverage {
-            fill_ring(r, &mut w);
+            fill_ring(r, &mut w, |r, w| points(r, s, w));
         }
     }
     match r.below(50) {
@@ -53,7 +70,7 @@ fn previous_time(r: &mut Rng) -> u64 {
 
 /// Fills head, count, coalesced and the ring of a moving average: in order or not, full or not,
 /// damaged or not.
-fn fill_ring(r: &mut Rng, w: &mut [u64]) {
+fn fill_ring(r: &mut Rng, w: &mut [u64], points: impl Fn(&mut Rng, &[u64]) -> Points) {
     let capacity = (w.len() - 6) / 2;
     let count = ring_count(r, capacity);
     let head = if r.one_in(2) {
@@ -61,7 +78,8 @@ fn fill_ring(r: &mut Rng, w: &mut [u64]) {
     } else {
         capacity - 1 - r.below(8) as usize
     };
-    fill_points(r, w, head, count);
+    let points = points(r, w);
+    fill_points(r, w, head, count, &points);
     w[3] = head as u64;
     w[4] = count as u64;
     w[5] = any_bool(r);
@@ -84,21 +102,33 @@ fn ring_count(r: &mut Rng, capacity: usize) -> usize {
     }
 }
 
-/// Writes the points from the last back to the first: mostly in order and up to the previous time.
-fn fill_points(r: &mut Rng, w: &mut [u64], head: usize, count: usize) {
-    let capacity = (w.len() - 6) / 2;
-    let mut t = match r.below(6) {
+/// Mostly in order and up to the previous time.
+fn any_points(r: &mut Rng, _: &[u64], w: &[u64]) -> Points {
+    let last = match r.below(6) {
         0 => wild(r),
         1 => f64::from_bits(zero(r)),
         _ if w[2] != UNSET => f64::from_bits(w[2]),
         _ => tame(r),
     };
-    let ordered = !r.one_in(4);
-    let step = r.pick(&[0.25, 1.0, 0.001, 0.0, 0.01]);
+    Points {
+        last,
+        ordered: !r.one_in(4),
+        step: r.pick(&[0.25, 1.0, 0.001, 0.0, 0.01]),
+    }
+}
+
+/// Writes the points from the last back to the first.
+fn fill_points(r: &mut Rng, w: &mut [u64], head: usize, count: usize, points: &Points) {
+    let capacity = (w.len() - 6) / 2;
+    let mut t = points.last;
     for n in (0..count).rev() {
         let slot = (head + n) % capacity;
-        w[6 + slot] = if ordered { t.to_bits() } else { any_real(r) };
+        w[6 + slot] = if points.ordered {
+            t.to_bits()
+        } else {
+            any_real(r)
+        };
         w[6 + capacity + slot] = any_real(r);
-        t -= step * r.below(4) as f64;
+        t -= points.step * r.below(4) as f64;
     }
 }

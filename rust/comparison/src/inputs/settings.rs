@@ -5,7 +5,12 @@ use crate::{Kind, model};
 
 /// Settings of which one in 60 has a number that is not finite.
 pub fn settings(r: &mut Rng, kind: Kind) -> Vec<u64> {
-    let mut s = finite_settings(r, kind);
+    let s = finite_settings(r, kind);
+    spoiled(r, kind, s)
+}
+
+/// One in 60 with a number that is not finite.
+pub(super) fn spoiled(r: &mut Rng, kind: Kind, mut s: Vec<u64>) -> Vec<u64> {
     if r.one_in(60) {
         let reals = kind.settings().match_indices('r');
         let places: Vec<usize> = reals.map(|(n, _)| n).collect();

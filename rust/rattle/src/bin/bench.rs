@@ -18,14 +18,10 @@ struct Proved<'a> {
 
 impl Proved<'_> {
     fn new(case: &Case, whole: bool) -> Option<Proved<'_>> {
-        let block = block(case.kind)?;
-        let (_, length) = (block.state_length)(&case.settings);
-        let mut region = vec![0; length];
-        (block.start)(&case.settings, &mut region);
         Some(Proved {
-            block,
+            block: block(case.kind)?,
             settings: &case.settings,
-            region,
+            region: case.region(),
             whole,
         })
     }
@@ -61,7 +57,7 @@ impl Ticking for Nothing {
     }
 }
 
-/// Nanoseconds a tick of one side, from a fresh start; none if the block is not proved yet.
+/// Nanoseconds a tick of one side; none if the block is not proved yet.
 fn run(case: &Case, side: &str, ticks: u64) -> Option<f64> {
     match side {
         "published" => Some(case.nanoseconds(&mut Published::new(case), ticks)),

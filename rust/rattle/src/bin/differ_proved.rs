@@ -1,4 +1,4 @@
-//! Compares the proved blocks with the Rust call by call: `differ_proved N SEED [BLOCK]`.
+//! Compares the proved blocks with the Rust call by call: `differ_proved N SEED [[not] BLOCK]`.
 use comparison::differ;
 
 fn main() {

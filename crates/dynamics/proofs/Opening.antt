@@ -6,8 +6,7 @@ use Prim.Native.Nat.{ℕ, zero, suc}
 use native.Mathlib.Omega.{arith}
 use lib.Ieee.{Float}
 use lib.Dec.{eqb}
-use lib.ListN.{length}
-use Rattle.dynamics.specs.Answer.{silent, emitted, refusalOf, skipped, formRefusal, timeRefusal, accept}
+use Rattle.dynamics.specs.Answer.{silent, refusalOf, skipped, formRefusal, timeRefusal, accept}
 use Rattle.dynamics.specs.Region.{Gives}
 use Rattle.dynamics.specs.Machine.{Machine, sized, startRefusal, startedWords, Reading, decodeRefusal, decodeAnswer, isSound, tickRefusal, emitAnswer, updateAnswer, updatedWords, tickAnswer}
 use Rattle.dynamics.specs.Stepped.{openedAs}
@@ -16,7 +15,7 @@ use Rattle.dynamics.specs.declared.call.Inputs.{Inputs}
 use Rattle.dynamics.specs.declared.previous.Previous.{Previous}
 use Rattle.dynamics.proofs.Accepted.{accepted, refused-6, refused-none, form-fails, form-passes}
 use Rattle.dynamics.proofs.Accepted as by
-use Rattle.dynamics.proofs.Calls.{sound-decodes, start-refused, emit-refused, emit-accepted, update-refused, tick-refused}
+use Rattle.dynamics.proofs.Calls.{sound-decodes, start-refused, emit-refused, update-refused, tick-refused}
 
 -- A decoding enum: its two cases, document 01's number and values of each, and that they are two.
 pub record Enum (S D : Type 0) : Type 0 where

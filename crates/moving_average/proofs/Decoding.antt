@@ -16,7 +16,7 @@ use Rattle.dynamics.specs.Region.{Gives}
 use Rattle.dynamics.specs.Machine.{sized, startRefusal, startedWords, decodeRefusal, tickRefusal}
 use Rattle.dynamics.specs.declared.call.Inputs.{Inputs}
 use Rattle.dynamics.proofs.Calls.{start-accepted, start-sized, tick-sized, tick-decodes}
-use Rattle.dynamics.proofs.Opening.{Enum, ok, here, fine}
+use Rattle.dynamics.proofs.Opening.{Enum, fine}
 use Rattle.dynamics.proofs.Opening as opening
 use Rattle.window.specs.Geometry.{geometryOf}
 use Rattle.window.specs.declared.ring.RingGeometry.{RingGeometry}

@@ -6,7 +6,7 @@ use Prim.Native.Nat.{ℕ, zero, suc, _+_, _-_, _*_, _≤_, _<_}
 use native.Mathlib.Omega.{arith}
 use borrow.Author.Tests.{eqb-true, leb-false, ne-eqb, lt-ltb, le-leb}
 use lib.Dec.{T, eqb, leb}
-use lib.ListN.{length, getD, set, drop, replicate, length-set, length-drop, length-replicate}
+use lib.ListN.{length, getD, set, drop, length-set, length-drop, length-replicate}
 use lib.Seq.{getD-set-other}
 use lib.Ieee.{Float, binary64, fits}
 use Rattle.reals.specs.Words.{realOf, wordOf}
@@ -22,7 +22,7 @@ use Rattle.window.specs.Geometry.{geometryOf}
 use Rattle.window.proofs.Sizes.{capacity-least, length-is}
 use Rattle.moving_average.specs.Ring.{Stands, Holds, timePlace, muPlace, timeWord}
 use Rattle.moving_average.specs.Average.{pruned, isCrowded, after, over, placeOf, written}
-use Rattle.moving_average.specs.MovingAverage.{stateOf, ringOf, decodable, fresh, muNow, ringAt, placeAt, warningOf, startWord, latch, stepOf, afterOf, machineFor, machine}
+use Rattle.moving_average.specs.MovingAverage.{stateOf, decodable, fresh, muNow, ringAt, placeAt, warningOf, startWord, latch, stepOf, afterOf, machineFor, machine}
 use Rattle.moving_average.specs.declared.MovingAverage.{MovingAverage}
 use Rattle.moving_average.specs.declared.ring.Ring.{Ring}
 use Rattle.moving_average.specs.declared.store.Step.{Step}

@@ -1,5 +1,5 @@
 -- What a tick's parts come to: the output, the step, and the whole call. Assumes nothing.
-use mathlib.Core.Path.{_≡_, refl, sym, ap, _∙_}
+use mathlib.Core.Path.{_≡_, sym, ap, _∙_}
 use mathlib.Core.Bool.{Bool}
 use mathlib.Core.List.{List}
 use Prim.Native.Nat.{ℕ, _≤_}
@@ -25,7 +25,6 @@ use Rattle.moving_average.specs.MovingAverage.{stateOf, ringOf, muNow, o
 use Rattle.moving_average.specs.declared.MovingAverage.{MovingAverage}
 use Rattle.moving_average.specs.declared.ring.Ring.{Ring}
 use Rattle.moving_average.specs.declared.store.Place.{Place}
-use Rattle.moving_average.specs.declared.store.Step.{Step}
 use Rattle.moving_average.specs.declared.state.State.{State}
 use Rattle.moving_average.specs.declared.state.Decoded.{Decoded}
 use Rattle.moving_average.specs.declared.state.Decoded.the-variants as variant

@@ -8,7 +8,7 @@ use native.Mathlib.Omega.{arith}
 use lib.Dec.{eqb}
 use lib.Ieee.{Float}
 use Rattle.reals.specs.Words.{wordOf}
-use Rattle.moving_average.specs.Ring.{Stands, Holds, timeWord, leading, edgeOf, expiredOf}
+use Rattle.moving_average.specs.Ring.{Holds, timeWord, leading, edgeOf, expiredOf}
 use Rattle.moving_average.specs.Average.{pruned, isCrowded, placeOf, after, over}
 use Rattle.moving_average.specs.declared.ring.Ring.{Ring}
 use Rattle.moving_average.specs.declared.store.Place.{Place}

@@ -1,5 +1,5 @@
 -- `MovingAverage` over a region. Definitions only.
-use mathlib.Core.Bool.{Bool, true, false, _&&_, cond}
+use mathlib.Core.Bool.{Bool, false, _&&_, cond}
 use mathlib.Core.List.{List, _∷_}
 use Prim.Native.Nat.{ℕ, _+_, _*_}
 use lib.Dec.{leb, ltb}
@@ -65,7 +65,7 @@ module _ (g : RingGeometry) (w : List ℕ) (s : State) (t : Float) where
   unfoldable pub outputOf : Float → Float
   outputOf mu = (mu ⊖ muAt w (ringOf s (g .capacity)) (t ⊖ g .delta) (record { time = t; mu = mu })) ⊘ divisor (startOf s t) (g .delta) t
 
-  -- the ring without the points at or before t - delta but the last of them, and the place of the tick's point in it
+  -- the ring once it is pruned, and the place of the tick's point in it
   unfoldable pub ringAt : Ring
   ringAt = pruned w (ringOf s (g .capacity)) (t ⊖ g .delta)
 

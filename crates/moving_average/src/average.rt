@@ -1,5 +1,4 @@
 // One tick of the average: its output, and the step that an update writes.
-use crate::ring::Ring;
 use crate::state::State;
 use crate::state::ring_of;
 use crate::store::Step;
@@ -18,7 +17,7 @@ use window::denominator;
 ghost use mathlib.Core.Path.{_≡_};
 ghost use Rattle.dynamics.specs.Region.{Gives};
 ghost use Rattle.moving_average.specs.Ring.{Holds};
-ghost use Rattle.moving_average.specs.MovingAverage.{ringOf, muNow, startOf, outputOf, startWord, latch, stepOf, warningOf, afterOf};
+ghost use Rattle.moving_average.specs.MovingAverage.{ringOf, muNow, startOf, outputOf, startWord, latch, warningOf, afterOf};
 
 // The integral with this tick's input.
 pub fn mu_now(s: State, t: f64, u: f64) -> f64

@@ -1,7 +1,7 @@
 -- `walk::edge` stops at the first time that the target does not pass. Assumes nothing.
 use mathlib.Core.Bool.{Bool, not}
 use mathlib.Core.List.{List}
-use Prim.Native.Nat.{ℕ, _+_, _-_}
+use Prim.Native.Nat.{ℕ, _-_}
 use native.Mathlib.Omega.{arith}
 use lib.Ieee.{Float, le}
 use Rattle.moving_average.specs.Ring.{timeAt, edgeOf}

@@ -20,7 +20,7 @@ ghost use Rattle.moving_average.specs.Ring.{Holds};
 ghost use Rattle.moving_average.specs.MovingAverage.{ringOf, muNow, startOf, outputOf, startWord, latch, warningOf, afterOf};
 
 // The integral with this tick's input.
-pub fn mu_now(s: State, t: f64, u: f64) -> f64
+pub(crate) fn mu_now(s: State, t: f64, u: f64) -> f64
     ensures { λ r. ⌜ r ≡ muNow s t u ⌝ }
 {
     let previous = s.previous;
@@ -40,7 +40,7 @@ fn t_start(s: State, t: f64) -> f64
 }
 
 // The mean over the window up to t, where the integral is mu.
-pub fn output(geometry: RingGeometry, region: &[u64], s: State, t: f64, mu: f64) -> f64
+pub(crate) fn output(geometry: RingGeometry, region: &[u64], s: State, t: f64, mu: f64) -> f64
     requires { ⌜ Holds (now region) (ringOf s (geometry .capacity)) ⌝ }
     ensures { λ r. ⌜ r ≡ outputOf geometry (now (region .entry)) s t mu ⌝ }
 {
@@ -64,7 +64,7 @@ fn latch(old: u64, warning: bool) -> u64
 }
 
 // Stores the tick at t, where the integral is mu, and says whether that warns: the first point ever to be coalesced does.
-pub fn advance(geometry: RingGeometry, region: &mut [u64], s: State, t: f64, mu: f64) -> bool
+pub(crate) fn advance(geometry: RingGeometry, region: &mut [u64], s: State, t: f64, mu: f64) -> bool
     requires { ⌜ Holds (now region) (ringOf s (geometry .capacity)) ⌝ }
     ensures { λ r. ⌜ Gives (warningOf geometry (now (region .entry)) s t) (afterOf geometry (now (region .entry)) s t mu) r (now (region .exit)) ⌝ }
 {

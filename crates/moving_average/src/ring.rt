@@ -13,7 +13,7 @@ pub struct Ring {
 }
 
 // The slot of position n.
-pub fn slot(ring: Ring, n: usize) -> usize
+pub(crate) fn slot(ring: Ring, n: usize) -> usize
     requires { ⌜ Stands ring × (n ≤ ring .capacity) ⌝ }
     ensures { λ r. ⌜ r ≡ slotOf ring n ⌝ }
 {
@@ -25,21 +25,21 @@ pub fn slot(ring: Ring, n: usize) -> usize
 }
 
 // The words of position n. These two functions, and their two definitions, are all that knows the layout.
-pub fn time_place(ring: Ring, n: usize) -> usize
+pub(crate) fn time_place(ring: Ring, n: usize) -> usize
     requires { ⌜ Stands ring × (n ≤ ring .capacity) ⌝ }
     ensures { λ r. ⌜ r ≡ timePlace ring n ⌝ }
 {
     6 + slot(ring, n)
 }
 
-pub fn mu_place(ring: Ring, n: usize) -> usize
+pub(crate) fn mu_place(ring: Ring, n: usize) -> usize
     requires { ⌜ Stands ring × (n ≤ ring .capacity) ⌝ }
     ensures { λ r. ⌜ r ≡ muPlace ring n ⌝ }
 {
     6 + ring.capacity + slot(ring, n)
 }
 
-pub fn time_word(region: &[u64], ring: Ring, n: usize) -> u64
+pub(crate) fn time_word(region: &[u64], ring: Ring, n: usize) -> u64
     requires { ⌜ Holds (now region) ring × (n ≤ ring .capacity) ⌝ }
     ensures { λ r. ⌜ r ≡ timeWord (now (region .entry)) ring n ⌝ }
 {
@@ -47,14 +47,14 @@ pub fn time_word(region: &[u64], ring: Ring, n: usize) -> u64
     region[at]
 }
 
-pub fn time_at(region: &[u64], ring: Ring, n: usize) -> f64
+pub(crate) fn time_at(region: &[u64], ring: Ring, n: usize) -> f64
     requires { ⌜ Holds (now region) ring × (n ≤ ring .capacity) ⌝ }
     ensures { λ r. ⌜ r ≡ timeAt (now (region .entry)) ring n ⌝ }
 {
     real_of(time_word(region, ring, n))
 }
 
-pub fn point_at(region: &[u64], ring: Ring, n: usize) -> Point
+pub(crate) fn point_at(region: &[u64], ring: Ring, n: usize) -> Point
     requires { ⌜ Holds (now region) ring × (n ≤ ring .capacity) ⌝ }
     ensures { λ r. ⌜ r ≡ pointAt (now (region .entry)) ring n ⌝ }
 {

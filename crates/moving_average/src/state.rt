@@ -38,7 +38,7 @@ pub fn number_of(d: Decoded) -> u64
 }
 
 // What a region's first words mean.
-pub fn state_of(region: &[u64]) -> State
+pub(crate) fn state_of(region: &[u64]) -> State
     requires { ⌜ 6 ≤ length (now region) ⌝ }
     ensures { λ r. ⌜ r ≡ stateOf (now (region .entry)) ⌝ }
 {
@@ -53,7 +53,7 @@ pub fn state_of(region: &[u64]) -> State
 }
 
 // Whether the previous time is unset or finite, and head and count lie within the capacity.
-pub fn decodes(s: State, capacity: usize) -> bool
+pub(crate) fn decodes(s: State, capacity: usize) -> bool
     ensures { λ r. ⌜ r ≡ decodable s capacity ⌝ }
 {
     let previous = s.previous;
@@ -61,7 +61,7 @@ pub fn decodes(s: State, capacity: usize) -> bool
 }
 
 // Where the ring of such a state stands.
-pub fn ring_of(s: State, capacity: usize) -> Ring
+pub(crate) fn ring_of(s: State, capacity: usize) -> Ring
     ensures { λ r. ⌜ r ≡ ringOf s capacity ⌝ }
 {
     Ring {
@@ -72,7 +72,7 @@ pub fn ring_of(s: State, capacity: usize) -> Ring
 }
 
 // Every word 0.
-pub fn clear(region: &mut [u64])
+pub(crate) fn clear(region: &mut [u64])
     ensures { λ _. ⌜ now (region .exit) ≡ replicate (length (now (region .entry))) 0 ⌝ }
 {
     let mut i: usize = 0;

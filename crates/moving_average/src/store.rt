@@ -31,7 +31,7 @@ pub struct Step {
 }
 
 // The ring without the points that no window reaches any more.
-pub fn prune(region: &[u64], ring: Ring, cutoff: f64) -> Ring
+pub(crate) fn prune(region: &[u64], ring: Ring, cutoff: f64) -> Ring
     requires { ⌜ Holds (now region) ring ⌝ }
     ensures { λ r. ⌜ r ≡ pruned (now (region .entry)) ring cutoff ⌝ }
 {
@@ -90,7 +90,7 @@ fn same_time(a: u64, b: u64) -> bool
 }
 
 // The place of a point at t.
-pub fn place_for(region: &[u64], ring: Ring, resolution: f64, t: f64) -> Place
+pub(crate) fn place_for(region: &[u64], ring: Ring, resolution: f64, t: f64) -> Place
     requires { ⌜ Holds (now region) ring ⌝ }
     ensures { λ r. ⌜ r ≡ placeOf (now (region .entry)) ring resolution t ⌝ }
 {
@@ -108,7 +108,7 @@ pub fn place_for(region: &[u64], ring: Ring, resolution: f64, t: f64) -> Place
 }
 
 // The first six words, and the two of the tick's point.
-pub fn write(region: &mut [u64], step: Step)
+pub(crate) fn write(region: &mut [u64], step: Step)
     requires { ⌜ Holds (now region) (step .ring) × (step .place .position ≤ step .ring .capacity) ⌝ }
     ensures { λ _. ⌜ now (region .exit) ≡ written (now (region .entry)) step ⌝ }
 {

@@ -25,7 +25,7 @@ fn edge(region: &[u64], ring: Ring, target: f64) -> usize
 }
 
 // How many of the oldest points expire: each whose next one is still at or before the cutoff.
-pub fn expired(region: &[u64], ring: Ring, cutoff: f64) -> usize
+pub(crate) fn expired(region: &[u64], ring: Ring, cutoff: f64) -> usize
     requires { ⌜ Holds (now region) ring ⌝ }
     ensures { λ r. ⌜ r ≡ expiredOf (now (region .entry)) ring cutoff ⌝ }
 {
@@ -42,7 +42,7 @@ pub fn expired(region: &[u64], ring: Ring, cutoff: f64) -> usize
 }
 
 // The integral up to the target, by the ring's points and the present one.
-pub fn mu_at(region: &[u64], ring: Ring, target: f64, present: Point) -> f64
+pub(crate) fn mu_at(region: &[u64], ring: Ring, target: f64, present: Point) -> f64
     requires { ⌜ Holds (now region) ring ⌝ }
     ensures { λ r. ⌜ r ≡ muAt (now (region .entry)) ring target present ⌝ }
 {

@@ -127,11 +127,6 @@ within s cap e =
 
 pub holds : (b : MovingAverage) (time : Float) (i : Inputs) (w : List ℕ) → tickRefusal (machine b) time w ≡ 0 → Holds w (ringOf (stateOf w) (geometryOf (b .delta) .capacity))
 unfolding machineFor
-holds b time i w z = record {
-  stands = record {
-    few = capacity-most (b .delta);
-    first = within (stateOf w) (geometryOf (b .delta) .capacity) (tick-decodes (machine b) time i w z) .0;
-    counted = within (stateOf w) (geometryOf (b .delta) .capacity) (tick-decodes (machine b) time i w z) .1;
-  };
-  size = long b w (tick-sized (machine b) time i w z);
-}
+holds b time i w z =
+    let (first, counted) = within (stateOf w) (geometryOf (b .delta) .capacity) (tick-decodes (machine b) time i w z) in
+    record { stands = record { few = capacity-most (b .delta); first = first; counted = counted }; size = long b w (tick-sized (machine b) time i w z) }

@@ -1,6 +1,6 @@
 pub mod Places
 pub mod Walks
-pub mod Writes
+pub mod Stores
 pub mod Decoding
 pub mod Steps
 pub mod Rules

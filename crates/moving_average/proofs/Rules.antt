@@ -1,15 +1,14 @@
 -- What an accepted tick leaves, as document 01 says it: the length, the start time's word, the coalesced word and the warning. And a fresh start is sound. Assumes nothing.
 use mathlib.Core.Path.{_≡_, refl, sym, ap, _∙_}
-use mathlib.Core.Bool.{Bool, true, false, not, _&&_, _||_, cond}
-use mathlib.Core.List.{List, _∷_}
+use mathlib.Core.Bool.{Bool, true, false, not, _&&_}
+use mathlib.Core.List.{List}
 use Prim.Native.Nat.{ℕ, zero, suc, _+_, _-_, _*_, _≤_, _<_}
 use native.Mathlib.Omega.{arith}
-use borrow.Author.Tests.{eqb-true, leb-false, ne-eqb, lt-ltb, le-leb}
-use lib.Dec.{T, eqb, leb}
-use lib.ListN.{length, getD, set, drop, length-set, length-drop, length-replicate}
-use lib.Seq.{getD-set-other}
+use borrow.Author.Tests.{ne-eqb, lt-ltb, le-leb}
+use lib.Dec.{T, eqb}
+use lib.ListN.{length, getD, length-replicate}
 use lib.Ieee.{Float, binary64, fits}
-use Rattle.reals.specs.Words.{realOf, wordOf}
+use Rattle.reals.specs.Words.{realOf}
 use Rattle.dynamics.specs.Previous.{isFirst, previousOf}
 use Rattle.dynamics.specs.Answer.{refusalOf}
 use Rattle.dynamics.specs.declared.previous.Previous.the-variants.{At}
@@ -20,54 +19,14 @@ use Rattle.dynamics.proofs.Times.{previous-back}
 use Rattle.dynamics.proofs.Calls.{start-sound, tick-settings, tick-sized, tick-time}
 use Rattle.window.specs.Geometry.{geometryOf}
 use Rattle.window.proofs.Sizes.{capacity-least, length-is}
-use Rattle.moving_average.specs.Ring.{Stands, Holds, timePlace, muPlace, timeWord}
-use Rattle.moving_average.specs.Average.{pruned, isCrowded, after, over, placeOf, written}
+use Rattle.moving_average.specs.Ring.{Holds}
+use Rattle.moving_average.specs.Average.{pruned, written}
 use Rattle.moving_average.specs.MovingAverage.{stateOf, decodable, fresh, muNow, ringAt, placeAt, warningOf, startWord, latch, stepOf, afterOf, machineFor, machine}
 use Rattle.moving_average.specs.declared.MovingAverage.{MovingAverage}
-use Rattle.moving_average.specs.declared.ring.Ring.{Ring}
 use Rattle.moving_average.specs.declared.store.Step.{Step}
-use Rattle.moving_average.proofs.Places.{time-within, mu-within}
 use Rattle.moving_average.proofs.Walks.{pruned-holds}
+use Rattle.moving_average.proofs.Stores.{place-count, written-length, written-front}
 use Rattle.moving_average.proofs.Decoding.{holds}
-
--- ---- what a step writes
-module _ (r : List ℕ) (s : Step) (h : Holds r (s .ring)) where
-  abbrev front : List ℕ
-  front = s .mu ∷ s .«t_start» ∷ s .time ∷ s .ring .head ∷ s .place .count ∷ s .coalesced ∷ drop 6 r
-
-  written-length : length (written r s) ≡ length r
-  unfolding written
-  written-length = simp (length-set, length-drop) (omega (arith, h .size))
-
-  -- the point's words lie past the first six
-  written-front : (k : ℕ) → k < 6 → getD (written r s) k 0 ≡ getD front k 0
-  unfolding written
-  written-front k inside =
-      let n = s .place .position in
-      let t = time-within (s .ring) (h .stands) n in
-      let m = mu-within (s .ring) (h .stands) n in
-      getD-set-other (set front (timePlace (s .ring) n) (s .time)) (muPlace (s .ring) n) k (s .mu) 0 (λ e. omega arith)
-      ∙ getD-set-other front (timePlace (s .ring) n) k (s .time) 0 (λ e. omega arith)
-
--- ---- the count with the tick's point
-crowded-full : (r : List ℕ) (g : Ring) (res t : Float) → isCrowded r g res t ≡ false → g .count < g .capacity
-unfolding isCrowded
-crowded-full r g res t e = leb-false (g .capacity) (g .count) (left (leb (g .capacity) (g .count)) _ e)
-  where
-    left : (a c : Bool) → a || c ≡ false → a ≡ false
-    left true c h = h
-    left false c h = refl
-
-place-count : (r : List ℕ) (g : Ring) (res t : Float) → Stands g → placeOf r g res t .count ≤ g .capacity
-unfolding placeOf
-place-count r g res t s = go (eqb (g .count) 0) (eqb (timeWord r g (g .count - 1)) (wordOf t)) (isCrowded r g res t) refl refl
-  where
-    go : (x y z : Bool) → eqb (g .count) 0 ≡ x → isCrowded r g res t ≡ z
-        → cond x (after g) (cond y (over g false) (cond z (over g true) (after g))) .count ≤ g .capacity
-    go true y z e c = let n = eqb-true (g .count) 0 e in omega (arith, s .first)
-    go false true z e c = s .counted
-    go false false true e c = s .counted
-    go false false false e c = omega (arith, crowded-full r g res t c)
 
 -- ---- an accepted tick
 turned : (old : ℕ) (b : Bool) → rising b (not (eqb old 0)) ≡ eqb old 0 && eqb (latch old (rising b (not (eqb old 0)))) 1

@@ -28,7 +28,8 @@ use Rattle.moving_average.specs.declared.store.Place.{Place}
 use Rattle.moving_average.specs.declared.state.State.{State}
 use Rattle.moving_average.specs.declared.state.Decoded.{Decoded}
 use Rattle.moving_average.specs.declared.state.Decoded.the-variants as variant
-use Rattle.moving_average.proofs.Walks.{pruned-holds, place-within}
+use Rattle.moving_average.proofs.Walks.{pruned-holds}
+use Rattle.moving_average.proofs.Stores.{place-within}
 use Rattle.moving_average.proofs.Decoding.{decoded, holds}
 
 -- ---- an update's step: the ring pruned, the point's place in it, the words written

@@ -5,13 +5,10 @@ use mathlib.Core.List.{List}
 use Prim.Native.Nat.{ℕ, zero, suc, _+_, _-_, _≤_, _<_}
 use native.Mathlib.Nat.{add-zero, sub-zero}
 use native.Mathlib.Omega.{arith}
-use lib.Dec.{eqb}
 use lib.Ieee.{Float}
-use Rattle.reals.specs.Words.{wordOf}
-use Rattle.moving_average.specs.Ring.{Holds, timeWord, leading, edgeOf, expiredOf}
-use Rattle.moving_average.specs.Average.{pruned, isCrowded, placeOf, after, over}
+use Rattle.moving_average.specs.Ring.{Holds, leading, edgeOf, expiredOf}
+use Rattle.moving_average.specs.Average.{pruned}
 use Rattle.moving_average.specs.declared.ring.Ring.{Ring}
-use Rattle.moving_average.specs.declared.store.Place.{Place}
 use Rattle.moving_average.proofs.Places.{slot-within}
 
 module _ (p : ℕ → Bool) where
@@ -76,16 +73,3 @@ pruned-holds r g x h =
       stands = record { few = h .stands .few; first = slot-within g (h .stands) _; counted = omega arith };
       size = h .size;
     }
-
--- a point's place is a position of the ring
-chosen : (a b c : Bool) (p q s u : Place) (k : ℕ) → p .position ≤ k → q .position ≤ k → s .position ≤ k → u .position ≤ k
-    → cond a p (cond b q (cond c s u)) .position ≤ k
-chosen true b c p q s u k hp hq hs hu = hp
-chosen false true c p q s u k hp hq hs hu = hq
-chosen false false true p q s u k hp hq hs hu = hs
-chosen false false false p q s u k hp hq hs hu = hu
-
-pub place-within : (r : List ℕ) (g : Ring) (res t : Float) → placeOf r g res t .position ≤ g .count
-unfolding placeOf
-place-within r g res t =
-    chosen (eqb (g .count) 0) (eqb (timeWord r g (g .count - 1)) (wordOf t)) (isCrowded r g res t) (after g) (over g false) (over g true) (after g) (g .count) (omega arith) (omega arith) (omega arith) (omega arith)

@@ -3,7 +3,7 @@ use native.Mathlib.Omega.{arith}
 use lib.ListN.{length-set}
 use Rattle.moving_average.specs.Average.{written}
 use Rattle.moving_average.proofs.Places.{time-within, mu-within}
-use Rattle.moving_average.proofs.Writes.{six-written}
+use Rattle.moving_average.proofs.Stores.{six-written}
 use borrow.Author.Needs.{needs}
 use Rattle.moving_average.proofs.store.write.Statement.{statement}
 use Rattle.moving_average.proofs.store.write.Tie as tie

@@ -10,7 +10,7 @@ use lib.Ieee.{Float}
 use lib.Ieee.Scale.{finite}
 use Rattle.reals.specs.Words.{0·0}
 use Rattle.dynamics.specs.Previous.{runsBack}
-use Rattle.dynamics.specs.Answer.{Outputs, silent, emitted, updated, ticked, refusalOf, formRefusal, accept, lengthOf}
+use Rattle.dynamics.specs.Answer.{Outputs, silent, emitted, updated, answered, refusalOf, formRefusal, accept, lengthOf}
 use Rattle.dynamics.specs.Region.{stored, Gives}
 use Rattle.dynamics.specs.Machine.{Machine, sized, lengthAnswer, startRefusal, decodeRefusal, tickRefusal, startedWords, isSound, emitAnswer, updateAnswer, updatedWords, tickAnswer, Tick, emits, updates, answerTo, wordsAfter, run}
 use Rattle.dynamics.specs.declared.call.Answer.{Answer}
@@ -102,7 +102,7 @@ module _ (M : Machine) (time : Float) (i : Inputs) (w : List ℕ) where
   unfolding updateAnswer updatedWords
   update-accepted z x a = record { answers = x ∙ accepted _ _ number z; leaves = a ∙ accepted _ _ number z }
 
-  pub tick-accepted : {x : Answer} {w' : List ℕ} → 0 ≡ number → x ≡ ticked (M .output w time i) (M .warns w time i) → w' ≡ M .after w time i
+  pub tick-accepted : {x : Answer} {w' : List ℕ} → 0 ≡ number → x ≡ answered (M .output w time i) (M .warns w time i) → w' ≡ M .after w time i
       → Gives (tickAnswer M time i w) (updatedWords M time i w) x w'
   unfolding tickAnswer updatedWords
   tick-accepted z x a = record { answers = x ∙ accepted _ _ number z; leaves = a ∙ accepted _ _ number z }
@@ -163,6 +163,6 @@ pub tick-together : (M : Machine) (time : Float) (i : Inputs) (w : List ℕ) →
 unfolding emitAnswer updateAnswer tickAnswer
 tick-together M time i w = go (tickRefusal M time w) (M .output w time i) (M .warns w time i)
   where
-    go : (n : ℕ) (o : Outputs) (b : Bool) → Together (accept n (emitted o) (silent n)) (accept n (updated b) (silent n)) (accept n (ticked o b) (silent n))
+    go : (n : ℕ) (o : Outputs) (b : Bool) → Together (accept n (emitted o) (silent n)) (accept n (updated b) (silent n)) (accept n (answered o b) (silent n))
     go zero o b = unfold accept in record { as-emit = refl; as-update = refl; real = refl; boolean = refl; warning = refl }
     go (suc n) o b = unfold accept in record { as-emit = refl; as-update = refl; real = refl; boolean = refl; warning = refl }

@@ -10,7 +10,7 @@ use Rattle.dynamics.specs.Previous.{soundPrevious}
 use Rattle.dynamics.specs.Answer.{silent, emitted, formRefusal, timeRefusal}
 use Rattle.dynamics.specs.Region.{stored, Gives}
 use Rattle.dynamics.specs.Machine.{Machine, startRefusal, startedWords, decodeRefusal, decodeAnswer, isSound, tickRefusal, emitAnswer, updateAnswer, updatedWords, tickAnswer}
-use Rattle.dynamics.specs.Stepped.{Stepped, machineOf}
+use Rattle.dynamics.specs.Stepped.{Stepped, steppedMachine}
 use Rattle.dynamics.specs.declared.call.Answer.{Answer}
 use Rattle.dynamics.specs.declared.call.Inputs.{Inputs}
 use Rattle.dynamics.specs.declared.previous.Previous.the-variants.{Unset}
@@ -34,7 +34,7 @@ module _ {X S D : Type 0} (O : Opens X S D) (b : X) where
   B = O .block b
 
   abbrev M : Machine
-  M = machineOf B
+  M = steppedMachine B
 
   module _ (time : Float) (i : Inputs) (w : List ℕ) {d : D} (opened : d ≡ Opened E (tickRefusal M time w) (B .stateOf w)) where
     -- in the `else`, the refusal
@@ -57,42 +57,42 @@ module _ {X S D : Type 0} (O : Opens X S D) (b : X) where
       same = here E M (B .stateOf) time i w opened is
 
       pub emit-then : {x : Answer} → x ≡ emitted (B .output s time i) → x ≡ emitAnswer M time i w
-      unfolding machineOf
+      unfolding steppedMachine
       emit-then x = emit-accepted M time i w good (x ∙ ap (λ (q : S). emitted (B .output q time i)) same)
 
       module _ {s' : S} {w' : List ℕ} (n : s' ≡ B .advance s time i) (l : w' ≡ stored w (B .wordsOf s')) where
         left : w' ≡ M .after w time i
-        unfolding machineOf
+        unfolding steppedMachine
         left =
             stored-after M time i w (B .wordsOf s') (O .counted b s') good
             (ap (B .wordsOf) n ∙ ap (λ (q : S). B .wordsOf (B .advance q time i)) same) l
 
         pub update-then : {x : Answer} → x ≡ silent 0 → Gives (updateAnswer M time i w) (updatedWords M time i w) x w'
-        unfolding machineOf
+        unfolding steppedMachine
         update-then x = update-accepted M time i w good x left
 
         pub tick-then : {x : Answer} → x ≡ emitted (B .output s time i) → Gives (tickAnswer M time i w) (updatedWords M time i w) x w'
-        unfolding machineOf
+        unfolding steppedMachine
         tick-then x = tick-accepted M time i w good (x ∙ ap (λ (q : S). emitted (B .output q time i)) same) left
 
   -- ---- opening, in the order of the table: tests 2 and 3, then the state is read, then the others
   module _ (w : List ℕ) {a : Bool} (settings : a ≡ B .accepts) {n : ℕ} (formed : n ≡ formRefusal a (eqb (length w) (B .size))) where
     module _ (bad : n ≡ 0 → ⊥) where
       pub start-form : Gives (startRefusal M w) (startedWords M w) n w
-      unfolding machineOf
+      unfolding steppedMachine
       start-form = opening.start-form E M (B .stateOf) w settings formed bad
 
       pub decode-form : E .refused n ≡ Opened E (decodeRefusal M w) (B .stateOf w)
-      unfolding machineOf
+      unfolding steppedMachine
       decode-form = opening.decode-form E M (B .stateOf) w settings formed bad
 
       pub admit-form : (time : Float) → E .refused n ≡ Opened E (tickRefusal M time w) (B .stateOf w)
-      unfolding machineOf
+      unfolding steppedMachine
       admit-form = opening.admit-form E M (B .stateOf) w settings formed bad
 
     module _ (good : n ≡ 0) where
       pub start-then : {w' : List ℕ} → w' ≡ stored w (B .wordsOf (B .initial)) → Gives (startRefusal M w) (startedWords M w) 0 w'
-      unfolding machineOf
+      unfolding steppedMachine
       start-then l =
           let z = fine E M (B .stateOf) w settings formed good in
           start-accepted M w (sym z) (stored-fresh M w (B .wordsOf (B .initial)) (O .counted b (B .initial)) (sym z) refl l)
@@ -103,20 +103,20 @@ module _ {X S D : Type 0} (O : Opens X S D) (b : X) where
         told = sound ∙ ap (λ (q : S). soundPrevious (B .previous q)) e
 
         pub decode-then : d ≡ true → E .state s ≡ Opened E (decodeRefusal M w) (B .stateOf w)
-        unfolding machineOf
+        unfolding steppedMachine
         decode-then = opening.decode-then E M (B .stateOf) w settings formed good e told
 
         pub decode-else : d ≡ false → E .refused 6 ≡ Opened E (decodeRefusal M w) (B .stateOf w)
-        unfolding machineOf
+        unfolding steppedMachine
         decode-else = opening.decode-else E M (B .stateOf) w settings formed good e told
 
         module _ (time : Float) {k : ℕ} (t : k ≡ timeRefusal time d (B .previous s)) where
           pub admit-then : k ≡ 0 → E .state s ≡ Opened E (tickRefusal M time w) (B .stateOf w)
-          unfolding machineOf
+          unfolding steppedMachine
           admit-then = opening.admit-then E M (B .stateOf) w settings formed good e told time (ap (B .previous) e) t
 
           pub admit-else : (k ≡ 0 → ⊥) → E .refused k ≡ Opened E (tickRefusal M time w) (B .stateOf w)
-          unfolding machineOf
+          unfolding steppedMachine
           admit-else = opening.admit-else E M (B .stateOf) w settings formed good e told time (ap (B .previous) e) t
 
   -- ---- what decoding answers, in document 01's number and values; its number; that a region is sound exactly if it decodes
@@ -128,10 +128,10 @@ module _ {X S D : Type 0} (O : Opens X S D) (b : X) where
     decode-number o e = opening.decode-number E M (B .stateOf) w o e
 
     pub sound-number : {k : ℕ} → k ≡ decodeRefusal M w → eqb k 0 ≡ isSound M w
-    unfolding machineOf
+    unfolding steppedMachine
     sound-number = opening.sound-number E M (B .stateOf) w refl
 
     -- a fresh start is sound
     pub fresh-sound : startRefusal M w ≡ 0 → isSound M (startedWords M w) ≡ true
-    unfolding machineOf
+    unfolding steppedMachine
     fresh-sound z = start-sound M w (O .counted b (B .initial)) (ap soundPrevious (O .fresh-unset b)) z

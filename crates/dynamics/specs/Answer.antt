@@ -29,15 +29,15 @@ abbrev pub silent : ℕ → Answer
 silent n = record { refusal = n; real = 0·0; boolean = false; warning = false }
 
 -- a whole tick, an emit and then an update: the outputs of the one, the warning of the other
-abbrev pub ticked : Outputs → Bool → Answer
-ticked o warning = record { refusal = 0; real = o .real; boolean = o .boolean; warning = warning }
+abbrev pub answered : Outputs → Bool → Answer
+answered o warning = record { refusal = 0; real = o .real; boolean = o .boolean; warning = warning }
 
 -- an accepted emit never warns, and an accepted update hands out 0.0 and false
 abbrev pub emitted : Outputs → Answer
-emitted o = ticked o false
+emitted o = answered o false
 
 abbrev pub updated : Bool → Answer
-updated warning = ticked (bothOutputs 0·0 false) warning
+updated warning = answered (bothOutputs 0·0 false) warning
 
 -- ---- refusals
 -- The number of the first test that fails, in the table's order; 0 is accepted. A test is true where it passes:

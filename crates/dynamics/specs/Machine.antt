@@ -7,7 +7,7 @@ use lib.ListN.{length}
 use lib.Ieee.{Float, binary64, fits}
 use lib.Ieee.Scale.{finite}
 use Rattle.dynamics.specs.Previous.{runsBack}
-use Rattle.dynamics.specs.Answer.{Outputs, silent, emitted, updated, ticked, refusalOf, skipped, formRefusal, accept, lengthOf}
+use Rattle.dynamics.specs.Answer.{Outputs, silent, emitted, updated, answered, refusalOf, skipped, formRefusal, accept, lengthOf}
 use Rattle.dynamics.specs.declared.call.Answer.{Answer}
 use Rattle.dynamics.specs.declared.call.Inputs.{Inputs}
 use Rattle.dynamics.specs.declared.call.Length.{Length}
@@ -72,7 +72,7 @@ module _ (M : Machine) where
 
   -- a whole tick, an emit and then an update; it leaves `updatedWords`
   unfoldable pub tickAnswer : Float → Inputs → List ℕ → Answer
-  tickAnswer time i w = accept (tickRefusal time w) (ticked (M .output w time i) (M .warns w time i)) (silent (tickRefusal time w))
+  tickAnswer time i w = accept (tickRefusal time w) (answered (M .output w time i) (M .warns w time i)) (silent (tickRefusal time w))
 
 -- ---- a run of calls
 -- what a call brings; its time is an f64

@@ -25,8 +25,8 @@ pub record Stepped (S : Type 0) : Type 0 where
   pub advance : S → Float → Inputs → S
 
 -- It decodes, and is sound, where its previous time is unset or finite. It never warns.
-unfoldable pub machineOf : {S : Type 0} → Stepped S → Machine
-machineOf B = record {
+unfoldable pub steppedMachine : {S : Type 0} → Stepped S → Machine
+steppedMachine B = record {
   accepts = B .accepts;
   size = B .size;
   fresh = B .wordsOf (B .initial);

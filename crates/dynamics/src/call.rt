@@ -1,6 +1,6 @@
 // What a call on one block brings, and what it answers. Answers are made here and nowhere else.
 ghost use mathlib.Core.Path.{_≡_};
-ghost use Rattle.dynamics.specs.Answer.{silent, ticked, emitted, updated, realOutput, booleanOutput, bothOutputs, lengthOf};
+ghost use Rattle.dynamics.specs.Answer.{silent, answered, emitted, updated, realOutput, booleanOutput, bothOutputs, lengthOf};
 
 // What a tick brings besides its time; a block reads as many words as it has inputs.
 pub struct Inputs {
@@ -37,7 +37,7 @@ pub fn silent(refusal: u64) -> Answer
 
 // A whole tick: an emit's outputs, and an update's warning.
 pub fn tick_answer(real: f64, boolean: bool, warning: bool) -> Answer
-    ensures { λ r. ⌜ r ≡ ticked (bothOutputs real boolean) warning ⌝ }
+    ensures { λ r. ⌜ r ≡ answered (bothOutputs real boolean) warning ⌝ }
 {
     let mut answer = silent(0);
     answer.real = real;

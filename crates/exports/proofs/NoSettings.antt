@@ -5,7 +5,7 @@ use mathlib.Core.List.{List}
 use Prim.Native.Nat.{ℕ}
 use lib.Ieee.{Float}
 use Rattle.dynamics.specs.Machine.{Machine, lengthAnswer, startRefusal, decodeRefusal, tickRefusal}
-use Rattle.dynamics.specs.Stepped.{machineOf}
+use Rattle.dynamics.specs.Stepped.{steppedMachine}
 use Rattle.dynamics.proofs.Calls.{start-2, decode-2, tick-2, length-2}
 use Rattle.controller.specs.Settings.{settingsAccepted}
 use Rattle.pid.specs.Pid.{machine}
@@ -16,7 +16,7 @@ module _ (settings : List ℕ) (none : namesController settings ≡ false) (rese
   M = machine reset (controllerConfig settings)
 
   not-accepted : M .accepts ≡ false
-  unfolding machineOf controllerConfig noController settingsAccepted
+  unfolding steppedMachine controllerConfig noController settingsAccepted
   not-accepted = simp none
 
   pub length-refused : lengthAnswer M ≡ record { refusal = 2; length = 0 }

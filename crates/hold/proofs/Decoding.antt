@@ -9,7 +9,7 @@ use lib.Ieee.{Float, ofBits}
 use Rattle.dynamics.specs.Previous.{previousOf}
 use Rattle.dynamics.specs.Region.{Gives}
 use Rattle.dynamics.specs.Machine.{Machine, startRefusal, tickRefusal, startedWords, decodeRefusal}
-use Rattle.dynamics.specs.Stepped.{machineOf}
+use Rattle.dynamics.specs.Stepped.{steppedMachine}
 use Rattle.dynamics.specs.declared.call.Inputs.{Inputs}
 use Rattle.dynamics.specs.declared.previous.Previous.the-variants.{Unset}
 use Rattle.dynamics.proofs.Opening.{Enum}
@@ -58,18 +58,18 @@ bares = opens (λ a. a) (λ a s time i. s)
 
 module _ (accepts : Bool) (advance : State → Float → Inputs → State) where
   abbrev machine : Machine
-  machine = machineOf (holdOf accepts advance)
+  machine = steppedMachine (holdOf accepts advance)
 
   -- a hold is started and taken apart as a bare one with the same settings
   module _ {a : Bool} (settings : a ≡ accepts) (w : List ℕ) where
     pub started-alike : {n : ℕ} {w' : List ℕ} → Gives (startRefusal (bare a) w) (startedWords (bare a) w) n w' → Gives (startRefusal machine w) (startedWords machine w) n w'
-    unfolding startRefusal startedWords machineOf
+    unfolding startRefusal startedWords steppedMachine
     started-alike g = rw settings at g
 
     pub decoded-alike : {d : Decoded} → d ≡ opened (decodeRefusal (bare a) w) w → d ≡ opened (decodeRefusal machine w) w
-    unfolding decodeRefusal machineOf
+    unfolding decodeRefusal steppedMachine
     decoded-alike e = rw settings at e
 
     pub admitted-alike : (time : Float) {d : Decoded} → d ≡ opened (tickRefusal (bare a) time w) w → d ≡ opened (tickRefusal machine time w) w
-    unfolding tickRefusal machineOf
+    unfolding tickRefusal steppedMachine
     admitted-alike time e = rw settings at e

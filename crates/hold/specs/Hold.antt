@@ -8,7 +8,7 @@ use Rattle.reals.specs.Words.{0·0, realOf, wordOf, flagOf, wordOfFlag}
 use Rattle.dynamics.specs.Previous.{previousOf, wordOfPrevious}
 use Rattle.dynamics.specs.Answer.{Outputs, booleanOutput}
 use Rattle.dynamics.specs.Machine.{Machine, Reading}
-use Rattle.dynamics.specs.Stepped.{Stepped, machineOf, openedAs}
+use Rattle.dynamics.specs.Stepped.{Stepped, steppedMachine, openedAs}
 use Rattle.dynamics.specs.declared.call.Inputs.{Inputs}
 use Rattle.dynamics.specs.declared.previous.Previous.the-variants.{Unset, At}
 use Rattle.hold.specs.declared.State.{State}
@@ -49,7 +49,7 @@ holdOf accepts advance = record {
 
 -- what a call does before the step is the same for every hold with these settings: this one stays as it is
 abbrev pub bare : Bool → Machine
-bare accepts = machineOf (holdOf accepts (λ s time i. s))
+bare accepts = steppedMachine (holdOf accepts (λ s time i. s))
 
 -- ---- a region taken apart, by the refusal number of the call
 

@@ -10,7 +10,7 @@ use Rattle.reals.specs.Words.{realOf, wordOf}
 use Rattle.reals.specs.Arithmetic.{_⊖_}
 use Rattle.dynamics.specs.Previous.{isFirst}
 use Rattle.dynamics.specs.Leaves.{rising}
-use Rattle.dynamics.specs.Answer.{Outputs, emitted, updated, ticked, realOutput}
+use Rattle.dynamics.specs.Answer.{Outputs, emitted, updated, answered, realOutput}
 use Rattle.dynamics.specs.Region.{Gives}
 use Rattle.dynamics.specs.Machine.{tickRefusal, emitAnswer, updateAnswer, updatedWords, tickAnswer}
 use Rattle.dynamics.specs.declared.call.Answer.{Answer}
@@ -100,6 +100,6 @@ module _ (b : MovingAverage) (time : Float) (i : Inputs) (w : List ℕ) {g : Rin
       pub update-then : {x : Answer} → x ≡ updated warning → Gives (updateAnswer (machine b) time i w) (updatedWords (machine b) time i w) x w'
       update-then x = update-accepted (machine b) time i w good (rw warns at x) leaves
 
-      pub tick-then : {y : Float} → y ≡ outputOf g w s time mu → {x : Answer} → x ≡ ticked (realOutput y) warning
+      pub tick-then : {y : Float} → y ≡ outputOf g w s time mu → {x : Answer} → x ≡ answered (realOutput y) warning
           → Gives (tickAnswer (machine b) time i w) (updatedWords (machine b) time i w) x w'
-      tick-then mean x = tick-accepted (machine b) time i w good (x ∙ ap (λ (o : Outputs). ticked o warning) (emits mean) ∙ ap (λ (q : Bool). ticked (machine b .output w time i) q) warns) leaves
+      tick-then mean x = tick-accepted (machine b) time i w good (x ∙ ap (λ (o : Outputs). answered o warning) (emits mean) ∙ ap (λ (q : Bool). answered (machine b .output w time i) q) warns) leaves

@@ -9,7 +9,7 @@ use lib.Ieee.{Float, nan, isNan, lt, le}
 use lib.Ieee.Scale.{finite}
 use Rattle.dynamics.specs.Answer.{refusalOf, skipped}
 use Rattle.dynamics.specs.Machine.{tickRefusal, emitAnswer, updatedWords}
-use Rattle.dynamics.specs.Stepped.{machineOf}
+use Rattle.dynamics.specs.Stepped.{steppedMachine}
 use Rattle.dynamics.specs.declared.call.Answer.{Answer}
 use Rattle.dynamics.specs.declared.call.Inputs.{Inputs}
 use Rattle.dynamics.proofs.Accepted.{accepted}
@@ -29,7 +29,7 @@ module _ (reset : Bool) (b : ControllerConfig) (time : Float) (i : Inputs) (w : 
     sum = termsOf b (stateOf (b .«controller_type») reset w) (heard reset i) .«y_u»
 
     pub output-limited : emitAnswer (machine reset b) time i w .real ≡ limit b sum
-    unfolding emitAnswer machineOf termsOf
+    unfolding emitAnswer steppedMachine termsOf
     output-limited = ap (λ (a : Answer). a .real) (sym (accepted _ _ (tickRefusal (machine reset b) time w) (sym ok)))
 
     pub output-held : T (le (b .«y_min») (b .«y_max»)) → isNan sum ≡ false → Held b sum (emitAnswer (machine reset b) time i w .real)
@@ -44,7 +44,7 @@ module _ (reset : Bool) (b : ControllerConfig) (time : Float) (i : Inputs) (w : 
   -- ---- P keeps no time: a tick has tests 2, 3 and 5 alone
   pub no-time : b .«controller_type» ≡ P
       → tickRefusal (machine reset b) time w ≡ refusalOf skipped (settingsAccepted b) (eqb (length w) 0) skipped (finite time) skipped skipped
-  unfolding tickRefusal machineOf stateOf
+  unfolding tickRefusal steppedMachine stateOf
   no-time p = simp p
 
 -- ---- `Pid` does not hear its third input
@@ -53,9 +53,9 @@ module _ (b : ControllerConfig) (time : Float) (u-s u-m : ℕ) (w : List ℕ) wh
   with-trigger trigger = record { first = u-s; second = u-m; third = trigger }
 
   pub deaf-emit : (m n : ℕ) → emitAnswer (machine false b) time (with-trigger m) w ≡ emitAnswer (machine false b) time (with-trigger n) w
-  unfolding machineOf emitAnswer heard
+  unfolding steppedMachine emitAnswer heard
   deaf-emit m n = refl
 
   pub deaf-update : (m n : ℕ) → updatedWords (machine false b) time (with-trigger m) w ≡ updatedWords (machine false b) time (with-trigger n) w
-  unfolding machineOf updatedWords heard
+  unfolding steppedMachine updatedWords heard
   deaf-update m n = refl

@@ -11,7 +11,7 @@ use Rattle.reals.proofs.Words.{nearest-fits}
 use Rattle.dynamics.specs.Previous.{previousOf}
 use Rattle.dynamics.specs.Answer.{refusalOf}
 use Rattle.dynamics.specs.Machine.{tickRefusal}
-use Rattle.dynamics.specs.Stepped.{machineOf}
+use Rattle.dynamics.specs.Stepped.{steppedMachine}
 use Rattle.dynamics.specs.History.{TwoWiped, AlikeFromWiping}
 use Rattle.controller.specs.Settings.{settingsAccepted}
 use Rattle.controller.specs.declared.config.ControllerType.the-variants.{Pi}
@@ -40,7 +40,7 @@ bench = record {
 
 -- the tick is at 3.0, 0.5 against 0.25, its trigger true; the garbage is an integrator that is no number and a previous time just above zero
 pub both-wiped : TwoWiped (machine true bench) (account bench)
-unfolding wordsOf stateOf settingsAccepted machineOf tickRefusal refusalOf previousOf round lt ofBits toBits
+unfolding wordsOf stateOf settingsAccepted steppedMachine tickRefusal refusalOf previousOf round lt ofBits toBits
 both-wiped = record {
   tick = record { time = nearest 3 1; is-f64 = nearest-fits 3 1; inputs = record { first = wordOf (nearest 1 2); second = wordOf (nearest 1 4); third = 1 } };
   one = wordsOf Pi true (initial bench);

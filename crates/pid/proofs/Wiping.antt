@@ -12,7 +12,7 @@ use Rattle.reals.proofs.Words.{flag-back, real-word}
 use Rattle.dynamics.specs.Previous.{soundPrevious}
 use Rattle.dynamics.specs.Leaves.{accumulated, rising}
 use Rattle.dynamics.specs.Machine.{Tick}
-use Rattle.dynamics.specs.Stepped.{machineOf}
+use Rattle.dynamics.specs.Stepped.{steppedMachine}
 use Rattle.dynamics.specs.History.{History, started, wiped, followed, previousIn, grown, RetoldFromWiping, AlikeFromWiping, RetoldFromStart}
 use Rattle.dynamics.proofs.Histories.{Kept, time-back, grown-sound, from-wiping, from-start, alike}
 use Rattle.controller.specs.Recurrence.{derivative, integral, termsOf, solvedBack, nextIntegrator, nextFilter, stateAfter, nextState}
@@ -70,7 +70,7 @@ module _ (b : ControllerConfig) (pi : b .«controller_type» ≡ Pi) (xi : T (fi
   words-told s = ap (λ t. wordsOf t true s) pi
 
   pub kept : Kept (machine true b) (account b) Good
-  unfolding machineOf
+  unfolding steppedMachine
   kept = record {
     quiet = λ w time i. refl;
     counted = λ h. unfold wordsOf in simp pi;

@@ -8,7 +8,7 @@ use Rattle.reals.specs.Words.{0·0, realOf, wordOf, flagOf, wordOfFlag}
 use Rattle.dynamics.specs.Previous.{previousOf, wordOfPrevious}
 use Rattle.dynamics.specs.Answer.{Outputs, realOutput}
 use Rattle.dynamics.specs.Machine.{Machine, Reading}
-use Rattle.dynamics.specs.Stepped.{Stepped, machineOf, openedAs}
+use Rattle.dynamics.specs.Stepped.{Stepped, steppedMachine, openedAs}
 use Rattle.dynamics.specs.declared.call.Inputs.{Inputs}
 use Rattle.dynamics.specs.declared.previous.Previous.{Previous}
 use Rattle.dynamics.specs.declared.previous.Previous.the-variants.{Unset, At}
@@ -80,7 +80,7 @@ block reset b = record {
 }
 
 abbrev pub machine : Bool → ControllerConfig → Machine
-machine reset b = machineOf (block reset b)
+machine reset b = steppedMachine (block reset b)
 
 -- ---- a region taken apart, by the refusal number of the call
 

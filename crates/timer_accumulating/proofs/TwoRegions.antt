@@ -10,7 +10,7 @@ use Rattle.reals.proofs.Words.{nearest-fits}
 use Rattle.dynamics.specs.Previous.{previousOf}
 use Rattle.dynamics.specs.Answer.{refusalOf}
 use Rattle.dynamics.specs.Machine.{tickRefusal}
-use Rattle.dynamics.specs.Stepped.{machineOf}
+use Rattle.dynamics.specs.Stepped.{steppedMachine}
 use Rattle.dynamics.specs.History.{TwoWiped}
 use Rattle.timer_accumulating.specs.TimerAccumulating.{machine, initial, stateOf, wordsOf}
 use Rattle.timer_accumulating.specs.Account.{account}
@@ -22,7 +22,7 @@ two-seconds = record { t = nearest 2 1 }
 
 -- the tick is at 1.0, its input and reset are true; the garbage is a total that is no number, a previous time just above zero, an input and a passed that are neither 0 nor 1
 pub both-wiped : TwoWiped (machine two-seconds) (account two-seconds)
-unfolding wordsOf stateOf machineOf tickRefusal refusalOf previousOf round lt le ofBits toBits
+unfolding wordsOf stateOf steppedMachine tickRefusal refusalOf previousOf round lt le ofBits toBits
 both-wiped = record {
   tick = record { time = nearest 1 1; is-f64 = nearest-fits 1 1; inputs = record { first = 1; second = 1; third = 0 } };
   one = wordsOf (initial two-seconds);

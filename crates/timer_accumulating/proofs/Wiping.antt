@@ -12,7 +12,7 @@ use Rattle.reals.proofs.Words.{flag-back, real-word}
 use Rattle.dynamics.specs.Previous.{soundPrevious, gap, isFirst}
 use Rattle.dynamics.specs.Leaves.{rising}
 use Rattle.dynamics.specs.Machine.{Tick}
-use Rattle.dynamics.specs.Stepped.{machineOf}
+use Rattle.dynamics.specs.Stepped.{steppedMachine}
 use Rattle.dynamics.specs.History.{History, started, wiped, followed, previousIn, refusedAfter, grown, RetoldFromWiping, AlikeFromWiping, RetoldFromStart}
 use Rattle.dynamics.specs.declared.previous.Previous.the-variants.{Unset, At}
 use Rattle.dynamics.proofs.Gaps.{zero-nonneg, zero-f64, either, sum-nonneg, sum-keeps}
@@ -109,7 +109,7 @@ module _ (b : TimerAccumulating) where
   wiped-state k w r = simp r
 
   pub kept : Kept (machine b) (account b) Good
-  unfolding machineOf wordsOf stateAfter
+  unfolding steppedMachine wordsOf stateAfter
   kept = record {
     quiet = λ w time i. refl;
     counted = λ h. refl;

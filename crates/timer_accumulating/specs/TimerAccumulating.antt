@@ -11,7 +11,7 @@ use Rattle.dynamics.specs.Previous.{previousOf, wordOfPrevious, gap, isFirst}
 use Rattle.dynamics.specs.Leaves.{rising}
 use Rattle.dynamics.specs.Answer.{Outputs, bothOutputs}
 use Rattle.dynamics.specs.Machine.{Machine, Reading}
-use Rattle.dynamics.specs.Stepped.{Stepped, machineOf, openedAs}
+use Rattle.dynamics.specs.Stepped.{Stepped, steppedMachine, openedAs}
 use Rattle.dynamics.specs.declared.call.Inputs.{Inputs}
 use Rattle.dynamics.specs.declared.previous.Previous.the-variants.{Unset, At}
 use Rattle.timer_accumulating.specs.declared.TimerAccumulating.{TimerAccumulating}
@@ -92,7 +92,7 @@ block b = record {
 }
 
 abbrev pub machine : TimerAccumulating → Machine
-machine b = machineOf (block b)
+machine b = steppedMachine (block b)
 
 -- ---- a region taken apart, by the refusal number of the call
 

@@ -11,7 +11,7 @@ use Rattle.reals.proofs.Words.{nearest-fits}
 use Rattle.dynamics.specs.Previous.{previousOf}
 use Rattle.dynamics.specs.Answer.{refusalOf}
 use Rattle.dynamics.specs.Machine.{tickRefusal}
-use Rattle.dynamics.specs.Stepped.{machineOf}
+use Rattle.dynamics.specs.Stepped.{steppedMachine}
 use Rattle.dynamics.specs.History.{TwoWiped}
 use Rattle.true_delay.specs.TrueDelay.{machine, initial, stateOf, wordsOf}
 use Rattle.true_delay.specs.Account.{account}
@@ -23,7 +23,7 @@ two-seconds = record { «delay_time» = nearest 2 1; «delay_on_init» = false }
 
 -- the tick is at 1.0, its input is false; the garbage is a timer that is no number, a previous time just above zero, an input and a held that are neither 0 nor 1
 pub both-wiped : TwoWiped (machine two-seconds) (account two-seconds)
-unfolding wordsOf stateOf machineOf tickRefusal refusalOf previousOf round lt le ofBits toBits
+unfolding wordsOf stateOf steppedMachine tickRefusal refusalOf previousOf round lt le ofBits toBits
 both-wiped = record {
   tick = record { time = nearest 1 1; is-f64 = nearest-fits 1 1; inputs = record { first = 0; second = 0; third = 0 } };
   one = wordsOf initial;

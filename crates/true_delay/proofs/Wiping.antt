@@ -15,7 +15,7 @@ use Rattle.reals.proofs.Order.{lt-not-ge}
 use Rattle.dynamics.specs.Previous.{soundPrevious, gap, isFirst}
 use Rattle.dynamics.specs.Leaves.{positiveDuration, timed}
 use Rattle.dynamics.specs.Machine.{Tick}
-use Rattle.dynamics.specs.Stepped.{machineOf}
+use Rattle.dynamics.specs.Stepped.{steppedMachine}
 use Rattle.dynamics.specs.History.{History, started, wiped, followed, previousIn, refusedAfter, grown, RetoldFromWiping, AlikeFromWiping, RetoldFromStart}
 use Rattle.dynamics.specs.declared.previous.Previous.the-variants.{Unset, At}
 use Rattle.dynamics.proofs.Gaps.{zero-nonneg, zero-f64, either, sum-nonneg, sum-keeps}
@@ -164,7 +164,7 @@ module _ (b : TrueDelay) (is-f64 : T (fits binary64 (b .«delay_time»))) where
   wiped-state k w r = simp (not-true (inputOf k) r)
 
   pub kept : Kept (machine b) (account b) Good
-  unfolding machineOf wordsOf stateAfter
+  unfolding steppedMachine wordsOf stateAfter
   kept = record {
     quiet = λ w time i. refl;
     counted = λ h. refl;

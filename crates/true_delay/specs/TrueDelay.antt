@@ -11,7 +11,7 @@ use Rattle.dynamics.specs.Previous.{previousOf, wordOfPrevious, gap, isFirst}
 use Rattle.dynamics.specs.Leaves.{positiveDuration, timed}
 use Rattle.dynamics.specs.Answer.{Outputs, booleanOutput}
 use Rattle.dynamics.specs.Machine.{Machine, Reading}
-use Rattle.dynamics.specs.Stepped.{Stepped, machineOf, openedAs}
+use Rattle.dynamics.specs.Stepped.{Stepped, steppedMachine, openedAs}
 use Rattle.dynamics.specs.declared.call.Inputs.{Inputs}
 use Rattle.dynamics.specs.declared.leaf.Timed.{Timed}
 use Rattle.dynamics.specs.declared.previous.Previous.the-variants.{Unset, At}
@@ -87,7 +87,7 @@ block b = record {
 }
 
 abbrev pub machine : TrueDelay → Machine
-machine b = machineOf (block b)
+machine b = steppedMachine (block b)
 
 -- ---- a region taken apart, by the refusal number of the call
 

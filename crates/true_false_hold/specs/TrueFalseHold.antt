@@ -7,7 +7,7 @@ use Rattle.reals.specs.Arithmetic.{_⊕_}
 use Rattle.dynamics.specs.Previous.{gap, isFirst}
 use Rattle.dynamics.specs.Leaves.{positiveDuration, timed}
 use Rattle.dynamics.specs.Machine.{Machine}
-use Rattle.dynamics.specs.Stepped.{Stepped, machineOf}
+use Rattle.dynamics.specs.Stepped.{Stepped, steppedMachine}
 use Rattle.dynamics.specs.declared.call.Inputs.{Inputs}
 use Rattle.dynamics.specs.declared.leaf.Timed.{Timed}
 use Rattle.dynamics.specs.declared.previous.Previous.the-variants.{At}
@@ -55,4 +55,4 @@ abbrev pub block : TrueFalseHold → Stepped State
 block b = holdOf (settingsAccepted b) (advance b)
 
 abbrev pub machine : TrueFalseHold → Machine
-machine b = machineOf (block b)
+machine b = steppedMachine (block b)

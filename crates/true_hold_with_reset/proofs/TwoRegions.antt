@@ -10,7 +10,7 @@ use Rattle.reals.proofs.Words.{nearest-fits}
 use Rattle.dynamics.specs.Previous.{previousOf}
 use Rattle.dynamics.specs.Answer.{refusalOf}
 use Rattle.dynamics.specs.Machine.{tickRefusal}
-use Rattle.dynamics.specs.Stepped.{machineOf}
+use Rattle.dynamics.specs.Stepped.{steppedMachine}
 use Rattle.dynamics.specs.History.{TwoWiped}
 use Rattle.hold.specs.Hold.{initial, stateOf, wordsOf}
 use Rattle.true_hold_with_reset.specs.TrueHoldWithReset.{machine}
@@ -23,7 +23,7 @@ two-seconds = record { duration = nearest 2 1 }
 
 -- the tick is at 1.0, its input and clear are true; the garbage is an output that is neither 0 nor 1, a timer that is no number, a previous time just above zero
 pub both-wiped : TwoWiped (machine two-seconds) (account two-seconds)
-unfolding wordsOf stateOf machineOf tickRefusal refusalOf previousOf round lt le ofBits toBits
+unfolding wordsOf stateOf steppedMachine tickRefusal refusalOf previousOf round lt le ofBits toBits
 both-wiped = record {
   tick = record { time = nearest 1 1; is-f64 = nearest-fits 1 1; inputs = record { first = 1; second = 1; third = 0 } };
   one = wordsOf initial;

@@ -11,7 +11,7 @@ use Rattle.reals.proofs.Words.{flag-back, real-word}
 use Rattle.dynamics.specs.Previous.{soundPrevious, gap, isFirst}
 use Rattle.dynamics.specs.Leaves.{positiveDuration, timed}
 use Rattle.dynamics.specs.Machine.{Tick}
-use Rattle.dynamics.specs.Stepped.{machineOf}
+use Rattle.dynamics.specs.Stepped.{steppedMachine}
 use Rattle.dynamics.specs.History.{History, started, wiped, followed, previousIn, refusedAfter, grown, RetoldFromWiping, AlikeFromWiping, RetoldFromStart}
 use Rattle.dynamics.specs.declared.leaf.Timed.{Timed}
 use Rattle.dynamics.specs.declared.previous.Previous.the-variants.{Unset, At}
@@ -119,7 +119,7 @@ module _ (b : TrueHoldWithReset) where
   wiped-state k w c = simp c
 
   pub kept : Kept (machine b) (account b) Good
-  unfolding machineOf wordsOf stateAfter
+  unfolding steppedMachine wordsOf stateAfter
   kept = record {
     quiet = λ w time i. refl;
     counted = λ h. refl;

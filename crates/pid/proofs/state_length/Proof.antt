@@ -1,12 +1,12 @@
 -- `state_length` is the block's, if its settings are accepted. Assumes nothing.
 use borrow.Author.Needs.{needs}
 use Rattle.dynamics.specs.Machine.{lengthAnswer}
-use Rattle.dynamics.specs.Stepped.{machineOf}
+use Rattle.dynamics.specs.Stepped.{steppedMachine}
 use Rattle.pid.proofs.state_length.Statement.{statement}
 use Rattle.pid.proofs.state_length.Tie as tie
 
 returns : tie.Need-returns
-unfolding lengthAnswer machineOf
+unfolding lengthAnswer steppedMachine
 returns c = simp (c .length-answer .ensures, c .before .state-len .ensures, c .before .before .settings-accepted .ensures)
 
 pub state-length-spec : {M : Type 1} → statement M

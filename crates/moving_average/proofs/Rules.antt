@@ -90,7 +90,7 @@ module _ (b : MovingAverage) (time : Float) (i : Inputs) (w : List ℕ) (ok : ti
   tick-sound f = rw (tick-settings (machine b) time i w ok, tick-length, tick-sized (machine b) time i w ok, decodes-after f)
 
 -- ---- a start
-fresh-length : (b : MovingAverage) → length (machine b .fresh) ≡ machine b .size
+pub fresh-length : (b : MovingAverage) → length (machine b .fresh) ≡ machine b .size
 unfolding machineFor fresh
 fresh-length b = simp length-replicate (omega (arith, length-is (b .delta)))
 

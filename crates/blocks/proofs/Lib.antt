@@ -1,0 +1,6 @@
+pub mod Decoding
+pub mod OneResult
+pub mod Wiping
+pub mod Lengths
+pub mod Lacking
+pub mod Names

@@ -1,0 +1,37 @@
+-- Each public call's contract admits one result only, and one region. Assumes nothing.
+use mathlib.Core.Path.{sym, _∙_}
+use denote.Ref.{now}
+use Rattle.dynamics.proofs.Calls.{one-result}
+use Rattle.dynamics.proofs.Once.{Once, OnceLeft}
+use Rattle.blocks.proofs.named.block_of.Reads as block-of
+use Rattle.blocks.proofs.state_length.Reads as length
+use Rattle.blocks.proofs.start.Reads as start
+use Rattle.blocks.proofs.sound.Reads as sound
+use Rattle.blocks.proofs.decode.Reads as decode
+use Rattle.blocks.proofs.emit.Reads as emit
+use Rattle.blocks.proofs.update.Reads as update
+use Rattle.blocks.proofs.tick.Reads as tick
+
+pub block-of-once : Once block-of.Post
+block-of-once κs a x y s t p q = p ∙ sym q
+
+pub length-once : Once length.Post
+length-once κs a x y s t p q = p ∙ sym q
+
+pub sound-once : Once sound.Post
+sound-once κs a x y s t p q = p ∙ sym q
+
+pub decode-once : Once decode.Post
+decode-once κs a x y s t p q = p ∙ sym q
+
+pub emit-once : Once emit.Post
+emit-once κs a x y s t p q = p ∙ sym q
+
+pub start-once : OnceLeft start.Post (λ κs s. now (s .1 .0))
+start-once κs a x y s t p q = one-result p q
+
+pub update-once : OnceLeft update.Post (λ κs s. now (s .1 .1 .0))
+update-once κs a x y s t p q = one-result p q
+
+pub tick-once : OnceLeft tick.Post (λ κs s. now (s .1 .1 .0))
+tick-once κs a x y s t p q = one-result p q

@@ -1,0 +1,4 @@
+pub mod Block
+pub mod Named
+pub mod Decoded
+pub mod Wiping

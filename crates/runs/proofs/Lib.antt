@@ -1,0 +1,6 @@
+-- Laws of runs, over any machine.
+pub mod Fours
+pub mod Running
+pub mod Ending
+pub mod Parts
+pub mod OneResult

@@ -1,0 +1,152 @@
+// A loop of whole ticks for each block: what its settings alone decide is worked out once, ahead of the loop.
+use crate::words::asked_at;
+use crate::words::put_answer;
+use controller::ControllerConfig;
+use moving_average::MovingAverage;
+use timer_accumulating::TimerAccumulating;
+use true_delay::TrueDelay;
+use true_false_hold::TrueFalseHold;
+use true_hold_with_reset::TrueHoldWithReset;
+ghost use Prim.Native.Nat.{_%_};
+ghost use mathlib.Core.Path.{_≡_};
+ghost use lib.ListN.{length};
+ghost use Rattle.pid.specs.Pid as controllers;
+ghost use Rattle.moving_average.specs.MovingAverage as average;
+ghost use Rattle.timer_accumulating.specs.TimerAccumulating as accumulating;
+ghost use Rattle.true_delay.specs.TrueDelay as delay;
+ghost use Rattle.true_false_hold.specs.TrueFalseHold as false-hold;
+ghost use Rattle.true_hold_with_reset.specs.TrueHoldWithReset as reset-hold;
+ghost use Rattle.runs.specs.Run.{asked, ranWords, ranAnswers, Fours};
+
+pub(crate) fn run_pid(
+    settings: ControllerConfig,
+    with_reset: bool,
+    ticks: &[u64],
+    region: &mut [u64],
+    answers: &mut [u64],
+)
+    requires { ⌜ Fours (now ticks) (now answers) ⌝ }
+    ensures { λ _. ⌜ now (region .exit) ≡ ranWords (controllers.machine «with_reset» settings) (now (region .entry)) (asked (now (ticks .entry))) ⌝ }
+    ensures { λ _. ⌜ now (answers .exit) ≡ ranAnswers (controllers.machine «with_reset» settings) (now (region .entry)) (asked (now (ticks .entry))) ⌝ }
+{
+    let mut i: usize = 0;
+    while i < ticks.len() {
+        let k = asked_at(ticks, i);
+        put_answer(
+            answers,
+            i,
+            pid::tick(settings, with_reset, k.time, k.inputs, region),
+        );
+        i += 4;
+    }
+}
+
+pub(crate) fn run_moving_average(
+    settings: MovingAverage,
+    ticks: &[u64],
+    region: &mut [u64],
+    answers: &mut [u64],
+)
+    requires { ⌜ Fours (now ticks) (now answers) ⌝ }
+    ensures { λ _. ⌜ now (region .exit) ≡ ranWords (average.machine settings) (now (region .entry)) (asked (now (ticks .entry))) ⌝ }
+    ensures { λ _. ⌜ now (answers .exit) ≡ ranAnswers (average.machine settings) (now (region .entry)) (asked (now (ticks .entry))) ⌝ }
+{
+    let mut i: usize = 0;
+    while i < ticks.len() {
+        let k = asked_at(ticks, i);
+        put_answer(
+            answers,
+            i,
+            moving_average::tick(settings, k.time, k.inputs, region),
+        );
+        i += 4;
+    }
+}
+
+pub(crate) fn run_timer_accumulating(
+    settings: TimerAccumulating,
+    ticks: &[u64],
+    region: &mut [u64],
+    answers: &mut [u64],
+)
+    requires { ⌜ Fours (now ticks) (now answers) ⌝ }
+    ensures { λ _. ⌜ now (region .exit) ≡ ranWords (accumulating.machine settings) (now (region .entry)) (asked (now (ticks .entry))) ⌝ }
+    ensures { λ _. ⌜ now (answers .exit) ≡ ranAnswers (accumulating.machine settings) (now (region .entry)) (asked (now (ticks .entry))) ⌝ }
+{
+    let mut i: usize = 0;
+    while i < ticks.len() {
+        let k = asked_at(ticks, i);
+        put_answer(
+            answers,
+            i,
+            timer_accumulating::tick(settings, k.time, k.inputs, region),
+        );
+        i += 4;
+    }
+}
+
+pub(crate) fn run_true_delay(
+    settings: TrueDelay,
+    ticks: &[u64],
+    region: &mut [u64],
+    answers: &mut [u64],
+)
+    requires { ⌜ Fours (now ticks) (now answers) ⌝ }
+    ensures { λ _. ⌜ now (region .exit) ≡ ranWords (delay.machine settings) (now (region .entry)) (asked (now (ticks .entry))) ⌝ }
+    ensures { λ _. ⌜ now (answers .exit) ≡ ranAnswers (delay.machine settings) (now (region .entry)) (asked (now (ticks .entry))) ⌝ }
+{
+    let mut i: usize = 0;
+    while i < ticks.len() {
+        let k = asked_at(ticks, i);
+        put_answer(
+            answers,
+            i,
+            true_delay::tick(settings, k.time, k.inputs, region),
+        );
+        i += 4;
+    }
+}
+
+pub(crate) fn run_true_false_hold(
+    settings: TrueFalseHold,
+    ticks: &[u64],
+    region: &mut [u64],
+    answers: &mut [u64],
+)
+    requires { ⌜ Fours (now ticks) (now answers) ⌝ }
+    ensures { λ _. ⌜ now (region .exit) ≡ ranWords (false-hold.machine settings) (now (region .entry)) (asked (now (ticks .entry))) ⌝ }
+    ensures { λ _. ⌜ now (answers .exit) ≡ ranAnswers (false-hold.machine settings) (now (region .entry)) (asked (now (ticks .entry))) ⌝ }
+{
+    let mut i: usize = 0;
+    while i < ticks.len() {
+        let k = asked_at(ticks, i);
+        put_answer(
+            answers,
+            i,
+            true_false_hold::tick(settings, k.time, k.inputs, region),
+        );
+        i += 4;
+    }
+}
+
+pub(crate) fn run_true_hold_with_reset(
+    settings: TrueHoldWithReset,
+    ticks: &[u64],
+    region: &mut [u64],
+    answers: &mut [u64],
+)
+    requires { ⌜ Fours (now ticks) (now answers) ⌝ }
+    ensures { λ _. ⌜ now (region .exit) ≡ ranWords (reset-hold.machine settings) (now (region .entry)) (asked (now (ticks .entry))) ⌝ }
+    ensures { λ _. ⌜ now (answers .exit) ≡ ranAnswers (reset-hold.machine settings) (now (region .entry)) (asked (now (ticks .entry))) ⌝ }
+{
+    let mut i: usize = 0;
+    while i < ticks.len() {
+        let k = asked_at(ticks, i);
+        put_answer(
+            answers,
+            i,
+            true_hold_with_reset::tick(settings, k.time, k.inputs, region),
+        );
+        i += 4;
+    }
+}

@@ -1,2 +1,3 @@
 pub mod Answers
-pub mod NoSettings
+pub mod Zeros
+pub mod OneResult

@@ -1,24 +1,30 @@
 -- What crosses to C and Rust: words alone. Definitions only.
 use Prim.Native.Nat.{ℕ}
-use mathlib.Core.Bool.{Bool, false, _&&_, cond}
-use mathlib.Core.List.{List}
-use lib.Dec.{eqb, ltb}
-use lib.ListN.{length, getD}
-use lib.Ieee.{nan}
-use Rattle.reals.specs.Words.{0·0, realOf, wordOf, flagOf, wordOfFlag}
+use mathlib.Core.Path.{_≡_}
+use Rattle.reals.specs.Words.{realOf, wordOf, wordOfFlag}
+use Rattle.dynamics.specs.Previous.{wordOfPrevious}
 use Rattle.dynamics.specs.declared.call.Answer.{Answer}
 use Rattle.dynamics.specs.declared.call.Inputs.{Inputs}
 use Rattle.dynamics.specs.declared.call.Length.{Length}
-use Rattle.timer_accumulating.specs.declared.TimerAccumulating.{TimerAccumulating}
-use Rattle.true_delay.specs.declared.TrueDelay.{TrueDelay}
-use Rattle.true_false_hold.specs.declared.TrueFalseHold.{TrueFalseHold}
-use Rattle.true_hold_with_reset.specs.declared.TrueHoldWithReset.{TrueHoldWithReset}
-use Rattle.moving_average.specs.declared.MovingAverage.{MovingAverage}
-use Rattle.controller.specs.declared.config.ControllerType.{ControllerType}
-use Rattle.controller.specs.declared.config.ControllerType.the-variants.{P, Pi, Pd, Pid}
-use Rattle.controller.specs.declared.config.ControllerConfig.{ControllerConfig}
+use Rattle.controller.specs.declared.recurrence.State as controller-state
+use Rattle.moving_average.specs.declared.state.State as average-state
+use Rattle.timer_accumulating.specs.declared.state.State as accumulating-state
+use Rattle.true_delay.specs.declared.state.State as delay-state
+use Rattle.hold.specs.declared.State as hold-state
+use Rattle.blocks.specs.Block.{inputsOf}
+use Rattle.blocks.specs.declared.block.Tick.{Tick}
+use Rattle.blocks.specs.declared.decoded.State.{State}
+use Rattle.blocks.specs.declared.decoded.State.the-variants.{Controller, MovingAverage, TimerAccumulating, TrueDelay, Hold}
+use Rattle.blocks.specs.declared.decoded.Decoded.{Decoded}
+use Rattle.blocks.specs.declared.decoded.Decoded.the-variants.{Refused}
+use Rattle.blocks.specs.declared.decoded.Decoded.the-variants as variant
 use Rattle.exports.specs.declared.boundary.AnswerWords.{AnswerWords}
 use Rattle.exports.specs.declared.boundary.LengthWords.{LengthWords}
+use Rattle.exports.specs.declared.states.StateWords.{StateWords}
+
+-- the refusal number of words that name no block
+abbrev pub noBlock : ℕ
+noBlock = 13
 
 -- an answer and a length in words
 unfoldable pub answerWords : Answer → AnswerWords
@@ -27,73 +33,44 @@ answerWords a = record { refusal = a .refusal; real = wordOf (a .real); boolean 
 abbrev pub lengthWords : Length → LengthWords
 lengthWords l = record { refusal = l .refusal; length = l .length }
 
--- what a tick brings to a block with one, two or three inputs
-unfoldable pub oneInput : ℕ → Inputs
-oneInput i = record { first = i; second = 0; third = 0 }
-
-unfoldable pub twoInputs : ℕ → ℕ → Inputs
-twoInputs i j = record { first = i; second = j; third = 0 }
-
+-- ---- a tick of one block: its time and three inputs
 unfoldable pub threeInputs : ℕ → ℕ → ℕ → Inputs
 threeInputs i j k = record { first = i; second = j; third = k }
 
--- settings from words: a real by its bits, a boolean true unless 0
-unfoldable pub timerAccumulating : ℕ → TimerAccumulating
-timerAccumulating x = record { t = realOf x }
+pub record Brings (time first second third : ℕ) (k : Tick) : Type 0 where
+  pub at-time : k .time ≡ realOf time
+  pub inputs : inputsOf k ≡ threeInputs first second third
 
-unfoldable pub trueDelay : ℕ → ℕ → TrueDelay
-trueDelay x y = record { «delay_time» = realOf x; «delay_on_init» = flagOf y }
+-- ---- a decoded state: its values in the order of its record, zeros after them
+abbrev inOrder : (refusal first second third fourth fifth sixth : ℕ) → StateWords
+inOrder n a b c d e f = record { refusal = n; first = a; second = b; third = c; fourth = d; fifth = e; sixth = f }
 
-unfoldable pub trueFalseHold : ℕ → ℕ → TrueFalseHold
-trueFalseHold x y = record { «true_hold_duration» = realOf x; «false_hold_duration» = realOf y }
+abbrev pub noState : ℕ → StateWords
+noState n = inOrder n 0 0 0 0 0 0
 
-unfoldable pub trueHoldWithReset : ℕ → TrueHoldWithReset
-trueHoldWithReset x = record { duration = realOf x }
+abbrev pub controllerWords : controller-state.State → StateWords
+controllerWords s = inOrder 0 (wordOf (s .integrator)) (wordOfPrevious (s .previous)) (wordOf (s .filter)) (wordOfFlag (s .trigger)) 0 0
 
-unfoldable pub movingAverage : ℕ → MovingAverage
-movingAverage x = record { delta = realOf x }
+abbrev pub averageWords : average-state.State → StateWords
+averageWords s = inOrder 0 (wordOf (s .mu)) (wordOf (s .«t_start»)) (wordOfPrevious (s .previous)) (s .head) (s .count) (wordOfFlag (s .coalesced))
 
--- a controller's words: its type (0 P, 1 PI, 2 PD, 3 PID), then its eleven numbers and the direction as the settings have them
-abbrev pub controllerTypeOf : ℕ → ControllerType
-controllerTypeOf w = cond (eqb w 1) Pi (cond (eqb w 2) Pd (cond (eqb w 3) Pid P))
+abbrev pub accumulatingWords : accumulating-state.State → StateWords
+accumulatingWords s = inOrder 0 (wordOf (s .total)) (wordOfPrevious (s .previous)) (wordOfFlag (s .input)) (wordOfFlag (s .reset)) (wordOfFlag (s .passed)) 0
 
-unfoldable pub namesController : List ℕ → Bool
-namesController w = eqb (length w) 13 && ltb (getD w 0 0) 4
+abbrev pub delayWords : delay-state.State → StateWords
+delayWords s = inOrder 0 (wordOf (s .timer)) (wordOfPrevious (s .previous)) (wordOfFlag (s .input)) (wordOfFlag (s .held)) 0 0
 
-unfoldable pub configOf : List ℕ → ControllerConfig
-configOf w = record {
-  «controller_type» = controllerTypeOf (getD w 0 0);
-  k = realOf (getD w 1 0);
-  ti = realOf (getD w 2 0);
-  td = realOf (getD w 3 0);
-  r = realOf (getD w 4 0);
-  «y_max» = realOf (getD w 5 0);
-  «y_min» = realOf (getD w 6 0);
-  ni = realOf (getD w 7 0);
-  nd = realOf (getD w 8 0);
-  «xi_start» = realOf (getD w 9 0);
-  «yd_start» = realOf (getD w 10 0);
-  «y_reset» = realOf (getD w 11 0);
-  «reverse_acting» = flagOf (getD w 12 0);
-}
+abbrev pub holdWords : hold-state.State → StateWords
+holdWords s = inOrder 0 (wordOfFlag (s .held)) (wordOf (s .timer)) (wordOfPrevious (s .previous)) 0 0 0
 
--- words of another number or type are no settings: what stands for them has the NaN for its gain, so every call refuses it with 2
-unfoldable pub noController : ControllerConfig
-noController = record {
-  «controller_type» = P;
-  k = nan;
-  ti = 0·0;
-  td = 0·0;
-  r = 0·0;
-  «y_max» = 0·0;
-  «y_min» = 0·0;
-  ni = 0·0;
-  nd = 0·0;
-  «xi_start» = 0·0;
-  «yd_start» = 0·0;
-  «y_reset» = 0·0;
-  «reverse_acting» = false;
-}
+abbrev pub stateWords : State → StateWords
+stateWords (Controller s) = controllerWords s
+stateWords (MovingAverage s) = averageWords s
+stateWords (TimerAccumulating s) = accumulatingWords s
+stateWords (TrueDelay s) = delayWords s
+stateWords (Hold s) = holdWords s
 
-unfoldable pub controllerConfig : List ℕ → ControllerConfig
-controllerConfig w = cond (namesController w) (configOf w) noController
+-- each case of decoding: its number, and the state or zeros
+abbrev pub decodedWords : Decoded → StateWords
+decodedWords (variant.State s) = stateWords s
+decodedWords (Refused n) = noState n

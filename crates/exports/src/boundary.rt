@@ -1,11 +1,17 @@
 // What crosses to C and Rust: words alone, since compiled code may give a NaN any bits.
+use blocks::Tick;
 use dynamics::Answer;
-use dynamics::Inputs;
 use dynamics::Length;
+use dynamics::silent;
+use reals::real_of;
 use reals::word_of;
 use reals::word_of_flag;
 ghost use mathlib.Core.Path.{_≡_};
-ghost use Rattle.exports.specs.Boundary.{answerWords, lengthWords, oneInput, twoInputs, threeInputs};
+ghost use Rattle.dynamics.specs.Answer.{silent};
+ghost use Rattle.exports.specs.Boundary.{answerWords, lengthWords, noBlock, Brings};
+
+// The refusal number of words that name no block.
+pub const NO_BLOCK: u64 = 13;
 
 // The refusal number, the real's bits, and the two booleans as 0 or 1.
 #[repr(C)]
@@ -35,6 +41,13 @@ pub fn answer_words(a: Answer) -> AnswerWords
     }
 }
 
+// The answer where the words name no block.
+pub fn no_answer() -> AnswerWords
+    ensures { λ r. ⌜ r ≡ answerWords (silent noBlock) ⌝ }
+{
+    answer_words(silent(NO_BLOCK))
+}
+
 // A length in words.
 pub fn length_words(l: Length) -> LengthWords
     ensures { λ r. ⌜ r ≡ lengthWords l ⌝ }
@@ -45,35 +58,12 @@ pub fn length_words(l: Length) -> LengthWords
     }
 }
 
-// What a tick brings to a block with one input.
-pub fn one_input(first: u64) -> Inputs
-    ensures { λ r. ⌜ r ≡ oneInput first ⌝ }
+// What a tick brings to one block.
+pub fn tick_of(time: u64, first: u64, second: u64, third: u64) -> Tick
+    ensures { λ r. ⌜ Brings time first second third r ⌝ }
 {
-    Inputs {
-        first,
-        second: 0,
-        third: 0,
-    }
-}
-
-// What a tick brings to a block with two inputs.
-pub fn two_inputs(first: u64, second: u64) -> Inputs
-    ensures { λ r. ⌜ r ≡ twoInputs first second ⌝ }
-{
-    Inputs {
-        first,
-        second,
-        third: 0,
-    }
-}
-
-// What a tick brings to a block with three inputs.
-pub fn three_inputs(first: u64, second: u64, third: u64) -> Inputs
-    ensures { λ r. ⌜ r ≡ threeInputs first second third ⌝ }
-{
-    Inputs {
-        first,
-        second,
-        third,
+    Tick {
+        time: real_of(time),
+        words: [first, second, third, 0, 0, 0, 0, 0],
     }
 }

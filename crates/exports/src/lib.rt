@@ -1,9 +1,5 @@
-// The library for C and Rust: every real goes in and comes out as its word, so that a NaN has one pattern.
-pub mod accumulating;
-pub mod average;
+// The library for C and Rust: the block by its number, settings, times and inputs as words, so that a NaN has one pattern.
 pub mod boundary;
-pub mod controllers;
-pub mod delay;
-pub mod false_hold;
+pub mod calls;
 pub mod leaves;
-pub mod reset_hold;
+pub mod states;

@@ -1,20 +1,10 @@
-//! Times the ticks of a block on fixed inputs. Whatever can tick is timed by the same driver.
-use std::hint::black_box;
-use std::time::Instant;
-
+//! What both sides of a speed comparison run: cases with settings, a region and ticks, all prepared; and the published side.
 use crate::Kind;
 use crate::inputs::bench_controller;
 use crate::oracle::{Oracle, values};
 use Kind::*;
 use oce_blocks::{Block, Ctx, NoopDiagnostics, access};
 use oce_model::Value;
-
-/// A block with its region.
-pub trait Ticking {
-    /// An emit, then an update.
-    fn tick(&mut self, time: f64, inputs: &[u64; 3]);
-    fn emit(&mut self, time: f64, inputs: &[u64; 3]);
-}
 
 pub struct Case {
     pub name: &'static str,
@@ -24,7 +14,7 @@ pub struct Case {
     rate: f64,
     /// Ticks before the measurement, from a fresh start.
     warm: u64,
-    /// If not 0: time emits alone, this many seconds after the last tick, in the place of ticks.
+    /// If not 0: emits alone, this many seconds after the last tick, in the place of ticks.
     ahead: f64,
 }
 
@@ -73,7 +63,9 @@ pub fn cases() -> Vec<Case> {
         controller("Pid PI", Pid, 1),
         controller("Pid PD", Pid, 2),
         controller("Pid PID", Pid, 3),
+        controller("PidWithReset P", PidWithReset, 0),
         controller("PidWithReset PI", PidWithReset, 1),
+        controller("PidWithReset PD", PidWithReset, 2),
         controller("PidWithReset PID", PidWithReset, 3),
         average("MovingAverage 300 s", 300.0, 1.0),
         average("MovingAverage 3600 s", 3600.0, 1.0),
@@ -83,11 +75,6 @@ pub fn cases() -> Vec<Case> {
         delay,
         case("TrueFalseHold", TrueFalseHold, &[2.0, 2.0]),
         case("TrueHoldWithReset", TrueHoldWithReset, &[2.0]),
-        case(
-            "LogicalVariablePulse",
-            LogicalVariablePulse,
-            &[60.0, 0.01, 1.0],
-        ),
         walk("walk of 300 s", 300.0, 1.0),
         walk("walk of 3600 s", 3600.0, 1.0),
         walk("walk of 65536 s", 65536.0, 1.0),
@@ -144,27 +131,26 @@ impl Case {
         (region[3], region[4]) = (first % capacity as u64, self.warm - first);
     }
 
-    /// How many ticks, or emits of a walk, make a measurement.
+    /// A walk is an emit alone.
     #[must_use]
-    pub fn measured(&self) -> u64 {
-        if self.ahead > 0.0 {
-            (20_000_000.0 / self.ahead) as u64
-        } else {
-            400_000
-        }
+    pub fn is_walk(&self) -> bool {
+        self.ahead > 0.0
     }
 
-    /// Nanoseconds a tick, or an emit of a walk, over so many of them, on the case's region.
-    pub fn nanoseconds(&self, block: &mut impl Ticking, ticks: u64) -> f64 {
-        let began = Instant::now();
-        for n in self.warm..self.warm + ticks {
-            if self.ahead > 0.0 {
-                block.emit(self.time(self.warm) + self.ahead, &self.inputs(n));
+    /// The ticks from this one after the warm-up on, or the emits of a walk: time and inputs.
+    #[must_use]
+    pub fn ticks(&self, from: u64, count: u64) -> Vec<[u64; 4]> {
+        let tick = |n| {
+            let time = if self.is_walk() {
+                self.time(self.warm) + self.ahead
             } else {
-                block.tick(self.time(n), &self.inputs(n));
-            }
-        }
-        began.elapsed().as_nanos() as f64 / ticks as f64
+                self.time(n)
+            };
+            let [first, second, third] = self.inputs(n);
+            [time.to_bits(), first, second, third]
+        };
+        let from = self.warm + from;
+        (from..from + count).map(tick).collect()
     }
 }
 
@@ -173,6 +159,14 @@ pub struct Published {
     kind: Kind,
     block: Box<dyn Block>,
     region: Vec<u64>,
+}
+
+/// A tick as the Rust takes it, and the outputs that it stores.
+#[derive(Clone, Copy)]
+pub struct Prepared {
+    time: f64,
+    inputs: [Value; 3],
+    outputs: [Value; 2],
 }
 
 impl Published {
@@ -185,28 +179,30 @@ impl Published {
         }
     }
 
-    fn emit_values(&self, time: f64, values: &[Value]) {
-        let mut keep = |_, y| {
-            black_box(y);
+    #[must_use]
+    pub fn prepared(&self, ticks: &[[u64; 4]]) -> Vec<Prepared> {
+        let prepared = |[time, inputs @ ..]: &[u64; 4]| Prepared {
+            time: f64::from_bits(*time),
+            inputs: values(self.kind, inputs).0,
+            outputs: [Value::Boolean(false); 2],
         };
-        let ctx = Ctx::new(time, &NoopDiagnostics);
-        self.block
-            .emit_from_state(&ctx, values, &self.region, &mut keep);
-    }
-}
-
-impl Ticking for Published {
-    fn emit(&mut self, time: f64, inputs: &[u64; 3]) {
-        let (values, count) = values(self.kind, black_box(inputs));
-        self.emit_values(black_box(time), &values[..count]);
+        ticks.iter().map(prepared).collect()
     }
 
-    fn tick(&mut self, time: f64, inputs: &[u64; 3]) {
-        let (values, count) = values(self.kind, black_box(inputs));
-        self.emit_values(black_box(time), &values[..count]);
-        let ctx = Ctx::new(time, &NoopDiagnostics);
-        self.block
-            .update_state(&ctx, &values[..count], &mut self.region);
+    /// An emit of each tick, and its update unless they are walks.
+    #[inline(never)]
+    pub fn run<const WALKS: bool>(&mut self, ticks: &mut [Prepared]) {
+        let count = self.kind.inputs().len();
+        for tick in ticks {
+            let ctx = Ctx::new(tick.time, &NoopDiagnostics);
+            let (inputs, outputs) = (&tick.inputs[..count], &mut tick.outputs);
+            let mut keep = |n: usize, y| outputs[n] = y;
+            self.block
+                .emit_from_state(&ctx, inputs, &self.region, &mut keep);
+            if !WALKS {
+                self.block.update_state(&ctx, inputs, &mut self.region);
+            }
+        }
     }
 }
 

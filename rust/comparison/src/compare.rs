@@ -9,8 +9,9 @@ use crate::oracle::Oracle;
 use crate::tally::{Class, Tally};
 use crate::{Answer, Calls, Kind, Update, hex, model};
 
-/// Ticks in a run.
+/// Ticks in a run, and the emits and updates that they are.
 const TICKS: u64 = 12;
+pub const CALLS: u64 = 2 * TICKS;
 
 /// A comparison ends after so many differences.
 const ENOUGH: usize = 5;
@@ -51,13 +52,19 @@ fn run(subject: &Calls, kind: Kind, r: &mut Rng, tally: &mut Tally) {
     if r.one_in(64) {
         run.set_far_back();
     }
-    run.sound();
+    run.decode();
+    let before = run.region.clone();
+    let (mut ticks, mut answers) = (vec![], vec![]);
     for _ in 0..TICKS {
         run.time = inputs::wide::tick_time(r, kind, &run.settings, &run.region);
         run.inputs = inputs::tick_inputs(r, kind);
         let emitted = run.emit();
-        run.update(emitted);
+        answers.push(run.update(emitted));
+        let [first, second, third] = run.inputs;
+        ticks.push([run.time, first, second, third]);
     }
+    run.run(&ticks, before, &answers);
+    run.decode();
 }
 
 /// One run as it stands: the Rust's words, and the tick that is due.
@@ -145,11 +152,15 @@ impl Run<'_> {
         }
     }
 
-    fn sound(&mut self) {
+    /// Sound and decoding are document 01's alone: the Rust has neither.
+    fn decode(&mut self) {
         let (kind, s, w) = (self.kind, &self.settings, &self.region);
-        let got = (self.subject.refusal)(kind, s, w);
-        let due = model::refusal(kind, s, w, None);
-        self.expect("sound", got, due);
+        let sound = (self.subject.sound)(kind, s, w);
+        let got = (self.subject.decode)(kind, s, w);
+        let due = model::decode(kind, s, w);
+        self.tally.see(Class::Decoded(due.refusal));
+        self.expect("sound", sound, due.refusal == 0);
+        self.expect("decode", got, due);
     }
 
     /// The number that is due at this tick.
@@ -181,8 +192,8 @@ impl Run<'_> {
         due
     }
 
-    /// The update, and the whole tick: its answer is the emit's with the update's warning.
-    fn update(&mut self, emitted: Answer) {
+    /// The update, and the whole tick: its answer is the emit's with the update's warning. That is what is handed back.
+    fn update(&mut self, emitted: Answer) -> Answer {
         let refused = self.refusal();
         let mut theirs = self.region.clone();
         let (s, v) = (&self.settings, &self.inputs);
@@ -199,14 +210,24 @@ impl Run<'_> {
             self.tally.see(Class::Warning);
         }
         self.see_call(refused);
-        let warning = due.warning;
+        let ticked = Answer {
+            warning: due.warning,
+            ..emitted
+        };
         self.expect_call("update", self.subject.update, due, &theirs);
-        self.expect_call(
-            "tick",
-            self.subject.tick,
-            Answer { warning, ..emitted },
-            &theirs,
-        );
+        self.expect_call("tick", self.subject.tick, ticked, &theirs);
+        self.region = theirs;
+        ticked
+    }
+
+    /// The ticks that led from the region before to this one, once more and all in one call.
+    fn run(&mut self, ticks: &[[u64; 4]], before: Vec<u64>, answers: &[Answer]) {
+        let theirs = std::mem::replace(&mut self.region, before);
+        let mut mine = self.region.clone();
+        let got = (self.subject.run)(self.kind, &self.settings, ticks, &mut mine);
+        self.tally.see(Class::Run);
+        self.expect("run", got.as_slice(), answers);
+        self.expect_words("run", &mine, &theirs);
         self.region = theirs;
     }
 

@@ -1,7 +1,7 @@
-//! The program that compares calls with the Rust: `N SEED [[not] BLOCK]`, N runs of each block, of one or of all but one,
-//! which may need another number of runs. A run is twelve ticks.
-use crate::compare::compare;
-use crate::tally::expected_classes;
+//! The program that compares calls with the Rust: `CALLS SEED [[not] BLOCK]`, at least so many emits and updates of each block,
+//! of one or of all but one, which may need another number. With fewer it fails.
+use crate::compare::{self, compare};
+use crate::tally::{Class, Tally, expected_classes};
 use crate::{Calls, Kind};
 
 /// Compares, prints what was met and found, and gives the exit status.
@@ -11,20 +11,38 @@ pub fn run(subject: &Calls, blocks: &[Kind]) -> i32 {
     let args: Vec<&str> = args.iter().map(String::as_str).collect();
     let number = |n: usize| args.get(n).and_then(|a| a.parse::<u64>().ok());
     let kinds = chosen(blocks, args.get(2..).unwrap_or(&[]));
-    let (Some(runs), Some(seed), false) = (number(0), number(1), kinds.is_empty()) else {
-        eprintln!("usage: N SEED [[not] BLOCK]");
+    let (Some(least), Some(seed), false) = (number(0), number(1), kinds.is_empty()) else {
+        eprintln!("usage: CALLS SEED [[not] BLOCK]");
         return 2;
     };
-    let (mut passed, mut calls) = (0, 0);
+    let mut passed = 0;
     for &kind in &kinds {
-        let tally = compare(subject, kind, runs, seed);
-        println!("{:20} {}", kind.name(), tally.line());
-        passed += usize::from(tally.report(&kind.name(), &expected_classes(kind)));
-        calls += tally.calls();
+        let tally = compare(subject, kind, least.div_ceil(compare::CALLS), seed);
+        println!("{} met {}", kind.name(), tally.line());
+        println!("compared: {:20} {}", kind.name(), counts(&tally));
+        let enough = tally.calls() >= least.max(1);
+        if !enough {
+            println!("{} TOO FEW: {least} calls were due", kind.name());
+        }
+        let held = tally.report(&kind.name(), &expected_classes(kind));
+        passed += usize::from(held && enough);
     }
-    println!("{calls} emits and updates in all, and a whole tick beside each update");
     println!("{passed} passed, {} failed", kinds.len() - passed);
     i32::from(passed < kinds.len())
+}
+
+/// How many calls of each sort were compared. Beside each update stands a whole tick.
+fn counts(tally: &Tally) -> String {
+    let decoded: u64 = [0, 2, 3, 6]
+        .map(|n| tally.count(Class::Decoded(n)))
+        .iter()
+        .sum();
+    format!(
+        "{} emits and updates, {} whole ticks, {} runs, {decoded} sound and decoded",
+        tally.calls(),
+        tally.calls() / 2,
+        tally.count(Class::Run),
+    )
 }
 
 /// All blocks, the one of a name, or all but that one; none if no block has the name.

@@ -41,9 +41,20 @@ impl Answer {
     }
 }
 
+/// A region taken apart: the refusal, and the words of its state record in the order of the fields,
+/// with zeros after them. A refusal has zeros beside its number.
+#[derive(Clone, Copy, Debug, PartialEq, Eq, Default)]
+pub struct Decoded {
+    pub refusal: u64,
+    pub words: [u64; 6],
+}
+
 /// Of a block with settings: time, inputs, region.
 pub type Emit = fn(Kind, &[u64], u64, &[u64], &[u64]) -> Answer;
 pub type Update = fn(Kind, &[u64], u64, &[u64], &mut [u64]) -> Answer;
+
+/// Whole ticks in their order, each its time and its inputs, then the region: what each answers.
+pub type Run = fn(Kind, &[u64], &[[u64; 4]], &mut [u64]) -> Vec<Answer>;
 
 /// The calls that are compared with the Rust: the model's, a slipped model's, or those of a port.
 /// Settings, inputs and region are words. There are always three inputs: a block that takes fewer
@@ -58,8 +69,10 @@ pub struct Calls {
     pub update: Update,
     /// A whole tick: the emit's outputs with the update's warning, and the words that it leaves.
     pub tick: Update,
-    /// The refusal of sound and of decoding: settings, region.
-    pub refusal: fn(Kind, &[u64], &[u64]) -> u64,
+    pub run: Run,
+    /// Of settings and a region.
+    pub sound: fn(Kind, &[u64], &[u64]) -> bool,
+    pub decode: fn(Kind, &[u64], &[u64]) -> Decoded,
 }
 
 /// Equal as reals: all NaNs count as one, -0.0 and 0.0 differ.

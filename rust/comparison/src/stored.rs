@@ -24,7 +24,7 @@ pub struct Stored {
 /// If they are not stored, or a line is not a call.
 #[must_use]
 pub fn stored(kind: Kind) -> Vec<Stored> {
-    let folder = concat!(env!("CARGO_MANIFEST_DIR"), "/../../vectors/calls");
+    let folder = concat!(env!("CARGO_MANIFEST_DIR"), "/../../crates/replay/data");
     let path = format!("{folder}/{}.txt", kind.name());
     let list = std::fs::read_to_string(path).expect("the list is stored");
     let parse = |line| Stored::parse(kind, line).expect("a stored call");

@@ -10,6 +10,10 @@ pub enum Class {
     Accepted,
     Refused(u64),
     Start,
+    /// A region that was taken apart, by its refusal.
+    Decoded(u64),
+    /// Many ticks in one call.
+    Run,
     FirstTick,
     True,
     False,
@@ -123,8 +127,9 @@ pub(crate) fn met<C, const N: usize>(classes: [(C, bool); N]) -> impl Iterator<I
 /// What a comparison of this block call by call must meet.
 #[must_use]
 pub fn expected_classes(kind: Kind) -> Vec<Class> {
-    let mut wanted = vec![Accepted, Start, FirstTick, InfiniteGap];
+    let mut wanted = vec![Accepted, Start, FirstTick, InfiniteGap, Run];
     wanted.extend([2, 3, 5, 6, 7].map(Refused));
+    wanted.extend([0, 2, 3, 6].map(Decoded));
     if kind.outputs().contains('b') {
         wanted.extend([True, False]);
     }

@@ -1,10 +1,10 @@
-//! The proved blocks as the comparison calls them, each region between guard words.
-use comparison::{Answer, Calls, Kind};
+//! The proved blocks as the comparison calls them.
+use comparison::{Answer, Calls, Decoded, Kind, model};
 
-use crate::block::Block;
-use crate::{averages, controllers, timers};
+use crate::boundary::{AnswerWords, Tick};
+use crate::guarded;
 
-/// The blocks that are proved.
+/// The blocks that are proved: those of document 01, in its order, which gives them their numbers.
 pub const BLOCKS: [Kind; 7] = [
     Kind::Pid,
     Kind::PidWithReset,
@@ -15,30 +15,73 @@ pub const BLOCKS: [Kind; 7] = [
     Kind::TrueHoldWithReset,
 ];
 
-/// The proved block of this kind, if there is one.
-#[must_use]
-pub fn block(kind: Kind) -> Option<&'static Block> {
-    match kind {
-        Kind::Pid => Some(&controllers::PID),
-        Kind::PidWithReset => Some(&controllers::PID_WITH_RESET),
-        Kind::MovingAverage => Some(&averages::MOVING_AVERAGE),
-        Kind::TimerAccumulating => Some(&timers::TIMER_ACCUMULATING),
-        Kind::TrueDelay => Some(&timers::TRUE_DELAY),
-        Kind::TrueFalseHold => Some(&timers::TRUE_FALSE_HOLD),
-        Kind::TrueHoldWithReset => Some(&timers::TRUE_HOLD_WITH_RESET),
-        Kind::LogicalVariablePulse => None,
+/// The proved calls, to be compared with the Rust.
+pub const CALLS: Calls = Calls {
+    state_length: |kind, s| {
+        let words = guarded::length(kind as u64, s);
+        (words.refusal, words.length as usize)
+    },
+    start: |kind, s, w| guarded::start(kind as u64, s, w),
+    emit: |kind, s, time, v, w| answer(guarded::emit(kind as u64, s, tick(time, v), w)),
+    update: |kind, s, time, v, w| answer(guarded::update(kind as u64, s, tick(time, v), w)),
+    tick: |kind, s, time, v, w| answer(guarded::tick(kind as u64, s, tick(time, v), w)),
+    run: |kind, s, ticks, w| {
+        let mut answers = vec![UNWRITTEN; 4 * ticks.len()];
+        let refused = guarded::run(kind as u64, s, ticks.as_flattened(), w, &mut answers);
+        assert_eq!(refused, 0, "a run of whole ticks is refused");
+        answers.chunks_exact(4).map(four).map(answer).collect()
+    },
+    sound: |kind, s, w| flag(guarded::sound(kind as u64, s, w)),
+    decode: |kind, s, w| {
+        let state = guarded::decode(kind as u64, s, w);
+        Decoded {
+            refusal: state.refusal,
+            words: state.words,
+        }
+    },
+};
+
+/// Start, tick and run are the proved ones, and the rest the model's: liboven.a has no more.
+pub const OVEN_CALLS: Calls = Calls {
+    start: CALLS.start,
+    tick: CALLS.tick,
+    run: CALLS.run,
+    ..model::CALLS
+};
+
+/// What the answers' words are before a run: as a refusal or a boolean it is none.
+const UNWRITTEN: u64 = 0xBAD0_BAD0_BAD0_BAD0;
+
+/// A tick's time and its inputs.
+fn tick(time: u64, inputs: &[u64]) -> Tick {
+    let [first, second, third] = inputs.try_into().expect("three inputs");
+    [time, first, second, third]
+}
+
+/// A boolean crosses as 0 or 1.
+fn flag(word: u64) -> bool {
+    assert!(word < 2, "a boolean that is neither 0 nor 1");
+    word == 1
+}
+
+fn answer(words: AnswerWords) -> Answer {
+    Answer {
+        refusal: words.refusal,
+        real: words.real,
+        boolean: flag(words.boolean),
+        warning: flag(words.warning),
     }
 }
 
-/// The proved calls, to be compared with the Rust.
-pub const CALLS: Calls = Calls {
-    state_length: |kind, s| (of(kind).state_length)(s),
-    start: |kind, s, w| guarded(w, |w| (of(kind).start)(s, w)),
-    emit: |kind, s, time, v, w| reading(w, |w| (of(kind).emit)(s, time, three(v), w)),
-    update: |kind, s, time, v, w| guarded(w, |w| (of(kind).update)(s, time, three(v), w)),
-    tick: |kind, s, time, v, w| guarded(w, |w| (of(kind).tick)(s, time, three(v), w)),
-    refusal: |kind, s, w| reading(w, |w| (of(kind).refusal)(s, w)),
-};
+/// An answer of a run.
+fn four(words: &[u64]) -> AnswerWords {
+    AnswerWords {
+        refusal: words[0],
+        real: words[1],
+        boolean: words[2],
+        warning: words[3],
+    }
+}
 
 /// Whole ticks from a fresh start: what each answers, and the words that it leaves.
 ///
@@ -55,34 +98,4 @@ pub fn run(kind: Kind, settings: &[u64], ticks: &[(f64, [u64; 3])]) -> Vec<(Answ
         (answer, region.clone())
     };
     ticks.iter().map(tick).collect()
-}
-
-fn of(kind: Kind) -> &'static Block {
-    block(kind).expect("a proved block")
-}
-
-fn three(inputs: &[u64]) -> &[u64; 3] {
-    inputs.try_into().expect("three inputs")
-}
-
-/// Words around a region that no call may write.
-const GUARD: [u64; 8] = [0x5EED_0F60_4A4D_5EED; 8];
-
-/// A call on a copy of the region between guard words, which must stay.
-fn guarded<T>(region: &mut [u64], call: impl FnOnce(&mut [u64]) -> T) -> T {
-    let mut buffer = [&GUARD, &*region, &GUARD].concat();
-    let inner = GUARD.len()..GUARD.len() + region.len();
-    let answer = call(&mut buffer[inner.clone()]);
-    region.copy_from_slice(&buffer[inner]);
-    let stay = buffer.starts_with(&GUARD) && buffer.ends_with(&GUARD);
-    assert!(stay, "a guard word changed");
-    answer
-}
-
-/// A call that only reads: the region must stay too.
-fn reading<T>(region: &[u64], call: impl FnOnce(&[u64]) -> T) -> T {
-    let mut copy = region.to_vec();
-    let answer = guarded(&mut copy, |w| call(w));
-    assert_eq!(copy, region, "a call that only reads has written");
-    answer
 }

@@ -1,13 +1,10 @@
 //! The proved library, linked. Nothing checks these declarations against crates/exports: the tests do.
-mod averages;
 pub mod bench_rows;
-mod block;
+pub mod boundary;
 mod calls;
-mod controllers;
+pub mod guarded;
 mod leaves;
 pub mod shown;
-mod timers;
 
-pub use block::Block;
-pub use calls::{BLOCKS, CALLS, block, run};
+pub use calls::{BLOCKS, CALLS, OVEN_CALLS, run};
 pub use leaves::LEAVES;

@@ -1,54 +1,109 @@
-//! Words that are no controller's settings are refused with 2 by every call, and no region changes.
-use comparison::{Answer, Kind};
-use rattle::CALLS;
+//! Words that name no block are refused with 13 by every call, before all else, and nothing is written.
+use rattle::BLOCKS;
+use rattle::boundary::{AnswerWords, LengthWords, StateWords};
+use rattle::guarded as calls;
 
-const CONTROLLERS: [Kind; 2] = [Kind::Pid, Kind::PidWithReset];
+/// Numbers of blocks and of none.
+fn numbers() -> impl Iterator<Item = u64> {
+    (0..=10).chain([1 << 32, 1 << 63, u64::MAX])
+}
 
-/// Settings that are accepted, of this type.
-fn settings(controller_type: u64) -> Vec<u64> {
-    let mut s = vec![1f64.to_bits(); 13];
-    s[0] = controller_type;
+/// Types of controllers and of none; as another block's setting a real that is finite, or not.
+const TYPES: [u64; 11] = [
+    0,
+    1,
+    2,
+    3,
+    4,
+    5,
+    1 << 32,
+    (1 << 32) + 1,
+    1 << 63,
+    0x3FF0_0000_0000_0000,
+    u64::MAX,
+];
+
+/// So many settings, the first of which is a type or any word.
+fn settings(first: u64, count: usize) -> Vec<u64> {
+    let mut s = vec![1f64.to_bits(); count];
+    if let Some(word) = s.first_mut() {
+        *word = first;
+    }
     s
 }
 
-/// Whether every call on every region of up to six words is refused with 2.
-fn is_refused(kind: Kind, s: &[u64]) -> bool {
-    let time = 1f64.to_bits();
-    (0..6).all(|length| {
-        let before = vec![0; length];
-        let mut w = before.clone();
-        let refused = Answer::refused(2);
-        (CALLS.state_length)(kind, s) == (2, 0)
-            && (CALLS.start)(kind, s, &mut w) == 2
-            && (CALLS.refusal)(kind, s, &w) == 2
-            && (CALLS.emit)(kind, s, time, &[1; 3], &w) == refused
-            && (CALLS.update)(kind, s, time, &[1; 3], &mut w) == refused
-            && (CALLS.tick)(kind, s, time, &[1; 3], &mut w) == refused
-            && w == before
-    })
+/// As many settings as the block has, and a controller's type is one of four.
+fn names_a_block(block: u64, s: &[u64]) -> bool {
+    let kind = BLOCKS.iter().find(|kind| **kind as u64 == block);
+    kind.is_some_and(|kind| kind.settings().len() == s.len() && !(kind.is_controller() && s[0] > 3))
 }
 
+const REFUSED: AnswerWords = AnswerWords {
+    refusal: 13,
+    real: 0,
+    boolean: 0,
+    warning: 0,
+};
+
+/// The time is none and the words are no region's: but for 13 these calls have other faults.
+const TICK: [u64; 4] = [u64::MAX; 4];
+
+/// How many of the eight calls refuse with 13, and with zeros. What they are lent is of these lengths, and must stay.
+fn refusals(block: u64, s: &[u64], region: usize, ticks: usize, answers: usize) -> usize {
+    let (mut w, ticks, mut a) = (vec![7; region], vec![7; ticks], vec![9; answers]);
+    let length = calls::length(block, s);
+    let state = calls::decode(block, s, &w);
+    let refused = [
+        length
+            == LengthWords {
+                refusal: 13,
+                length: 0,
+            },
+        calls::start(block, s, &mut w) == 13,
+        calls::emit(block, s, TICK, &w) == REFUSED,
+        calls::update(block, s, TICK, &mut w) == REFUSED,
+        calls::tick(block, s, TICK, &mut w) == REFUSED,
+        state
+            == StateWords {
+                refusal: 13,
+                words: [0; 6],
+            },
+        calls::run(block, s, &ticks, &mut w, &mut a) == 13,
+    ];
+    let refused = refused.into_iter().filter(|is| *is).count();
+    if refused > 0 {
+        assert_eq!(calls::sound(block, s, &w), 0);
+        assert!(w.iter().all(|word| *word == 7) && a.iter().all(|word| *word == 9));
+    }
+    refused
+}
+
+/// Every number with every number of settings, each first word among them: all seven that answer a refusal give 13, or none.
 #[test]
-fn words_of_another_number_are_refused() {
-    for (kind, t) in CONTROLLERS
-        .into_iter()
-        .flat_map(|kind| [0, 1, 2, 3].map(|t| (kind, t)))
-    {
-        let s = settings(t);
-        assert!(!is_refused(kind, &s));
-        for number in (0..13).chain(14..20) {
-            let mut s = s.clone();
-            s.resize(number, 1);
-            assert!(is_refused(kind, &s), "{kind:?} {number} words");
+fn exactly_the_words_that_name_no_block_are_refused() {
+    for block in numbers() {
+        for (count, first) in (0..=20).flat_map(|count| TYPES.map(|first| (count, first))) {
+            let s = settings(first, count);
+            let due = if names_a_block(block, &s) { 0 } else { 7 };
+            for (region, ticks, answers) in [(0, 0, 0), (3, 4, 4), (5, 8, 8)] {
+                let got = refusals(block, &s, region, ticks, answers);
+                assert_eq!(
+                    got, due,
+                    "block {block}, {count} settings, the first {first:X}"
+                );
+            }
         }
     }
 }
 
+/// 13 comes before 14, and before every region and answer space of any length.
 #[test]
-fn unknown_types_are_refused() {
-    for kind in CONTROLLERS {
-        for t in [4, 5, 1 << 32, (1 << 32) + 1, 1 << 63, u64::MAX] {
-            assert!(is_refused(kind, &settings(t)), "{kind:?} type {t}");
-        }
+fn no_lengths_hide_it() {
+    for (region, ticks, answers) in
+        (0..6).flat_map(|n| (0..6).flat_map(move |m| (0..6).map(move |k| (n, m, k))))
+    {
+        assert_eq!(refusals(7, &[], region, ticks, answers), 7);
+        assert_eq!(refusals(0, &settings(4, 13), region, ticks, answers), 7);
+        assert_eq!(refusals(4, &settings(0, 1), region, ticks, answers), 7);
     }
 }

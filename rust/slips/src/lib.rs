@@ -14,7 +14,7 @@ mod slipped {
 pub use table::{SLIPS, Slip};
 
 // what the copies name, as the model does
-pub use comparison::{Answer, Calls, Kind};
+pub use comparison::{Answer, Calls, Decoded, Kind};
 
 /// The calls of each slipped model, in the order of the table.
 pub const SLIPPED: [Calls; SLIPS.len()] = slipped::CALLS;

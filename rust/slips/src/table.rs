@@ -28,7 +28,7 @@ const fn slip(
 }
 
 /// All slips.
-pub const SLIPS: [Slip; 68] = [
+pub const SLIPS: [Slip; 76] = [
     slip(
         "NaN clamped to y_min",
         "Pid",
@@ -510,5 +510,62 @@ pub const SLIPS: [Slip; 68] = [
         "mod.rs",
         "        return Answer::refused(refused);\n    }\n    let mut answer",
         "        return Answer { boolean: true, ..Answer::refused(refused) };\n    }\n    let mut answer",
+    ),
+    // sound, decoding and runs
+    slip(
+        "any ring is sound",
+        "MovingAverage",
+        "state.rs",
+        "refusal(kind, s, region, None) == 0",
+        "refusal(kind, s, region, None) % 6 == 0",
+    ),
+    slip(
+        "a region with a bad word taken apart",
+        "TrueDelay",
+        "state.rs",
+        "if refusal == 0 {",
+        "if refusal % 6 == 0 {",
+    ),
+    slip(
+        "a decoded NaN as it is stored",
+        "TrueDelay",
+        "state.rs",
+        "word_of(real_of(word))",
+        "word",
+    ),
+    slip(
+        "a decoded boolean as it is stored",
+        "TimerAccumulating",
+        "state.rs",
+        "u64::from(word != 0)",
+        "word",
+    ),
+    slip(
+        "a decoded coalesced word as it is stored",
+        "MovingAverage",
+        "state.rs",
+        "flag(w[5])",
+        "w[5]",
+    ),
+    slip(
+        "a lacking time decoded as a time",
+        "Pid",
+        "controller.rs",
+        "word(p.previous_time, UNSET)",
+        "word(p.previous_time, 0)",
+    ),
+    slip(
+        "a decoded filter in the integrator's place",
+        "Pid",
+        "controller.rs",
+        "[integrator, time, filter, trigger, 0, 0]",
+        "[filter, time, integrator, trigger, 0, 0]",
+    ),
+    slip(
+        "a run leaves out a tick without a number for its time",
+        "TrueFalseHold",
+        "mod.rs",
+        "let ticks = ticks.iter();",
+        "let ticks = ticks.iter().filter(|t| !real_of(t[0]).is_nan());",
     ),
 ];

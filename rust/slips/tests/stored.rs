@@ -17,21 +17,25 @@ fn the_model_answers_as_stored() {
     }
 }
 
-/// A slip that only a start shows is left to the stored sessions: each begins with one.
-fn only_at_start(kind: Kind, slipped: &Calls) -> bool {
+/// Calls that are not stored. Of a start the stored sessions tell: each begins with one.
+const NOT_STORED: [&str; 4] = ["start of", "sound of", "decode of", "run of"];
+
+/// Whether calls that are not stored show the slip, and no others.
+fn shows_elsewhere(kind: Kind, slipped: &Calls) -> bool {
     let differences = compare(slipped, kind, 400, 3).differences;
-    !differences.is_empty() && differences.iter().all(|d| d.starts_with("start"))
+    let elsewhere = |d: &String| NOT_STORED.iter().any(|call| d.starts_with(call));
+    !differences.is_empty() && differences.iter().all(elsewhere)
 }
 
 #[test]
 fn every_slip_shows_in_the_stored_calls() {
-    let mut at_start = 0;
+    let mut elsewhere = 0;
     for (slip, slipped) in SLIPS.iter().zip(&SLIPPED) {
         let kind = Kind::named(slip.block).expect("a block has this name");
         if failures(&stored(kind), slipped) == 0 {
-            assert!(only_at_start(kind, slipped), "missed: {}", slip.name);
-            at_start += 1;
+            assert!(shows_elsewhere(kind, slipped), "missed: {}", slip.name);
+            elsewhere += 1;
         }
     }
-    assert_eq!(at_start, 2, "slips of a start in the table");
+    assert_eq!(elsewhere, 10, "slips of the other calls in the table");
 }

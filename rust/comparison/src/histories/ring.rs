@@ -7,7 +7,7 @@ use crate::model::leaves::{is_finite, real_of};
 use crate::oracle::Oracle;
 use crate::ring::Ring;
 use crate::tally::{Class, Tally};
-use crate::{Calls, Kind};
+use crate::{Answer, Calls, Kind};
 
 const KIND: Kind = Kind::MovingAverage;
 
@@ -91,6 +91,7 @@ pub fn compare(subject: &Calls, windows: &[(f64, u64)], seed: u64) -> (u64, Tall
                 let whole = n % 64 == 0 || n + 1 == ticks;
                 run.tick(&mut r, n, whole, &mut tally)
             });
+            let differs = differs.or_else(|| run.at_once());
             let shown = differs.map(|what| format!("delta {delta} {pace:?}: {what}"));
             tally.differences.extend(shown);
         }
@@ -106,6 +107,9 @@ struct LongRun<'a> {
     time: f64,
     mine: Vec<u64>,
     theirs: Vec<u64>,
+    /// The ticks so far, and what each answers.
+    ticks: Vec<[u64; 4]>,
+    answers: Vec<Answer>,
 }
 
 impl LongRun<'_> {
@@ -127,7 +131,18 @@ impl LongRun<'_> {
             },
             mine,
             theirs,
+            ticks: vec![],
+            answers: vec![],
         }
+    }
+
+    /// All ticks once more, in one call from a fresh start.
+    fn at_once(&self) -> Option<String> {
+        let (s, mut region) = (&self.settings, vec![7; self.theirs.len()]);
+        (self.subject.start)(KIND, s, &mut region);
+        let answers = (self.subject.run)(KIND, s, &self.ticks, &mut region);
+        let differs = answers != self.answers || region != self.theirs;
+        differs.then(|| "the ticks in one call differ".into())
     }
 
     /// One tick; `whole` looks at every word and at the order of the ring.
@@ -168,6 +183,11 @@ impl LongRun<'_> {
         if updated.warning {
             tally.see(Class::Warning);
         }
+        self.ticks.push([time.to_bits(), u, 0, 0]);
+        self.answers.push(Answer {
+            warning: updated.warning,
+            ..emitted
+        });
         let words = if whole { self.mine.len() } else { 6 };
         answers == [emitted, updated] && self.mine[..words] == self.theirs[..words]
     }

@@ -1,5 +1,6 @@
 //! Document 01's controller: the recurrence, rounding by rounding.
 use super::leaves::{UNSET, absolute, accumulate, filter, real_of, tick_dt, word_of};
+use super::state::{flag, real};
 use crate::Kind;
 
 /// The places of a controller's words. One that it lacks has none.
@@ -153,6 +154,17 @@ pub(super) fn start(kind: Kind, s: &[u64], region: &mut [u64]) {
     if let Some(n) = places(kind, s).integrator {
         region[n] = s[9];
     }
+}
+
+/// Integrator, previous time, filter, previous trigger. One that the controller lacks is 0.0, unset or false.
+pub(super) fn state(kind: Kind, s: &[u64], region: &[u64]) -> [u64; 6] {
+    let p = places(kind, s);
+    let word = |place: Option<usize>, lacking| place.map_or(lacking, |n| region[n]);
+    let integrator = real(word(p.integrator, 0));
+    let filter = real(word(p.filter, 0));
+    let trigger = flag(word(p.previous_trigger, 0));
+    let time = word(p.previous_time, UNSET);
+    [integrator, time, filter, trigger, 0, 0]
 }
 
 pub(super) fn output(kind: Kind, s: &[u64], inputs: &[u64], region: &[u64]) -> f64 {

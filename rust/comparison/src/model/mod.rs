@@ -5,6 +5,7 @@ pub mod controller;
 pub mod leaves;
 mod pulse;
 mod refusals;
+mod state;
 mod timers;
 
 use crate::{Answer, Calls, Kind};
@@ -12,6 +13,7 @@ use leaves::{UNSET, real_of, word_of};
 use timers::Step;
 
 pub use refusals::{refusal, state_length};
+pub use state::{decode, sound};
 
 /// The model's calls, to be compared with the Rust.
 pub const CALLS: Calls = Calls {
@@ -20,13 +22,10 @@ pub const CALLS: Calls = Calls {
     emit,
     update,
     tick,
-    refusal: sound_refusal,
+    run,
+    sound,
+    decode,
 };
-
-/// The refusal of sound and of decoding.
-fn sound_refusal(kind: Kind, s: &[u64], region: &[u64]) -> u64 {
-    refusal(kind, s, region, None)
-}
 
 /// Previous time unset, integrator at xi_start, passed is t <= 0, the rest zero.
 pub fn start(kind: Kind, s: &[u64], region: &mut [u64]) -> u64 {
@@ -109,4 +108,12 @@ pub fn tick(kind: Kind, s: &[u64], time: u64, inputs: &[u64], region: &mut [u64]
     let emitted = emit(kind, s, time, inputs, region);
     let warning = update(kind, s, time, inputs, region).warning;
     Answer { warning, ..emitted }
+}
+
+/// Whole ticks in their order; a refused one changes nothing, and the next goes on.
+pub fn run(kind: Kind, s: &[u64], ticks: &[[u64; 4]], region: &mut [u64]) -> Vec<Answer> {
+    let ticks = ticks.iter();
+    ticks
+        .map(|[time, inputs @ ..]| tick(kind, s, *time, inputs, region))
+        .collect()
 }

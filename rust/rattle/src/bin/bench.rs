@@ -1,92 +1,155 @@
-//! Times each block on the same inputs in one run: the ported Rust through `dyn Block`, which tests
-//! nothing, and the proved calls, an emit and an update or one whole tick. Nanoseconds, best of five.
-//! `bench CASE published|calls|tick|nothing N` runs N ticks of one case, for a tool that counts
-//! instructions: `nothing` is what the driver takes.
+//! Runs the prepared ticks of a case on one side, for tools/bench.
+//!
+//! - `bench cases` names the cases.
+//! - `bench CASE SIDE N` runs N ticks, for a tool that counts instructions. What comes before is the same for every N.
+//! - `bench CASE SIDE ns` prints the nanoseconds of a tick in the best list of ticks, of five runs.
+//!
+//! A side is `published`, the Rust's emit and update through `dyn Block`, which tests nothing; `run`, all ticks in one
+//! `oven_run`; `tick`, an `oven_tick` each; or `calls`, an `oven_emit` and an `oven_update` each. Of a walk there are only
+//! the emits of `published` and `calls`. Every side reads ticks from one prepared list and stores its answers in another.
 use std::hint::black_box;
+use std::time::Instant;
 
-use comparison::bench::{Case, Published, Ticking, cases};
-use rattle::{Block, block};
+use comparison::bench::{Case, Published, cases};
+use rattle::boundary::{self, AnswerWords, Tick};
+
+/// Ticks that are prepared for a tool that counts, of which it runs N; of walks, which are long, fewer.
+const PREPARED: u64 = 3000;
+const WALKS: u64 = 3;
 
 /// A proved block with its region.
-struct Proved<'a> {
-    block: &'static Block,
-    settings: &'a [u64],
+struct Proved {
+    block: u64,
+    settings: Vec<u64>,
     region: Vec<u64>,
-    /// One whole tick, in the place of an emit and an update.
-    whole: bool,
 }
 
-impl Proved<'_> {
-    fn new(case: &Case, whole: bool) -> Option<Proved<'_>> {
-        Some(Proved {
-            block: block(case.kind)?,
-            settings: &case.settings,
+impl Proved {
+    fn new(case: &Case) -> Proved {
+        Proved {
+            block: case.kind as u64,
+            settings: case.settings.clone(),
             region: case.region(),
-            whole,
-        })
-    }
-}
-
-impl Ticking for Proved<'_> {
-    fn emit(&mut self, time: f64, inputs: &[u64; 3]) {
-        let (s, time, v) = black_box((self.settings, time.to_bits(), inputs));
-        black_box((self.block.emit)(s, time, v, &self.region));
+        }
     }
 
-    fn tick(&mut self, time: f64, inputs: &[u64; 3]) {
-        let (s, time, v) = black_box((self.settings, time.to_bits(), inputs));
-        if self.whole {
-            black_box((self.block.tick)(s, time, v, &mut self.region));
-        } else {
-            black_box((self.block.emit)(s, time, v, &self.region));
-            black_box((self.block.update)(s, time, v, &mut self.region));
+    #[inline(never)]
+    fn run(&mut self, ticks: &[Tick], answers: &mut [[u64; 4]]) {
+        let (ticks, answers) = (ticks.as_flattened(), answers.as_flattened_mut());
+        let refused = boundary::run(self.block, &self.settings, ticks, &mut self.region, answers);
+        assert_eq!(refused, 0);
+    }
+
+    #[inline(never)]
+    fn ticks(&mut self, ticks: &[Tick], answers: &mut [AnswerWords]) {
+        for (tick, answer) in ticks.iter().zip(answers) {
+            *answer = boundary::tick(self.block, &self.settings, *tick, &mut self.region);
+        }
+    }
+
+    /// Emits, with updates unless they are walks.
+    #[cfg(not(feature = "oven"))]
+    #[inline(never)]
+    fn calls<const WALKS: bool>(&mut self, ticks: &[Tick], answers: &mut [[AnswerWords; 2]]) {
+        for (tick, answer) in ticks.iter().zip(answers) {
+            answer[0] = boundary::emit(self.block, &self.settings, *tick, &self.region);
+            if !WALKS {
+                answer[1] = boundary::update(self.block, &self.settings, *tick, &mut self.region);
+            }
         }
     }
 }
 
-/// The driver alone.
-struct Nothing;
+/// One side, ready to run the first so many of a list of ticks. It prepares all, and hands back the nanoseconds that the
+/// run took.
+type Side = Box<dyn FnMut(&[Tick], usize) -> u128>;
 
-impl Ticking for Nothing {
-    fn emit(&mut self, time: f64, inputs: &[u64; 3]) {
-        black_box((time, inputs));
-    }
+fn timed(run: impl FnOnce()) -> u128 {
+    let began = Instant::now();
+    run();
+    began.elapsed().as_nanos()
+}
 
-    fn tick(&mut self, time: f64, inputs: &[u64; 3]) {
-        black_box((time, inputs));
+/// A side that stores an answer for each tick; none may be a refusal.
+fn storing<A: Clone + Default + 'static>(
+    mut run: impl FnMut(&[Tick], &mut [A]) + 'static,
+    refusal: impl Fn(&A) -> u64 + 'static,
+) -> Side {
+    Box::new(move |ticks, count| {
+        let mut answers = vec![A::default(); ticks.len()];
+        let ns = timed(|| run(&ticks[..count], &mut answers[..count]));
+        assert!(answers.iter().all(|answer| refusal(answer) == 0));
+        ns
+    })
+}
+
+/// The side of this name; none if the case or the archive has no such calls.
+fn side(case: &Case, name: &str) -> Option<Side> {
+    let mut proved = Proved::new(case);
+    match (name, case.is_walk()) {
+        ("published", _) => Some(published(case)),
+        ("run", false) => Some(storing(move |t, a| proved.run(t, a), |a| a[0])),
+        ("tick", false) => Some(storing(move |t, a| proved.ticks(t, a), |a| a.refusal)),
+        #[cfg(not(feature = "oven"))]
+        ("calls", walks) => Some(storing(
+            move |t, a| {
+                if walks {
+                    proved.calls::<true>(t, a);
+                } else {
+                    proved.calls::<false>(t, a);
+                }
+            },
+            |a| a[0].refusal | a[1].refusal,
+        )),
+        _ => None,
     }
 }
 
-/// Nanoseconds a tick of one side; none if the block is not proved yet.
-fn run(case: &Case, side: &str, ticks: u64) -> Option<f64> {
-    match side {
-        "published" => Some(case.nanoseconds(&mut Published::new(case), ticks)),
-        "nothing" => Some(case.nanoseconds(&mut Nothing, ticks)),
-        _ => Some(case.nanoseconds(&mut Proved::new(case, side == "tick")?, ticks)),
-    }
+fn published(case: &Case) -> Side {
+    let (walks, mut published) = (case.is_walk(), Published::new(case));
+    Box::new(move |ticks, count| {
+        let mut prepared = published.prepared(ticks);
+        let ns = timed(|| {
+            if walks {
+                published.run::<true>(&mut prepared[..count]);
+            } else {
+                published.run::<false>(&mut prepared[..count]);
+            }
+        });
+        black_box(prepared);
+        ns
+    })
 }
 
-fn best(case: &Case, side: &str) -> String {
-    let times = (0..5).map(|_| run(case, side, case.measured()));
-    let best = times.flatten().reduce(f64::min);
-    best.map_or("-".into(), |ns| format!("{ns:.1} ns"))
+/// Nanoseconds of a tick in the best of many lists. A list is short, so that a cache holds it and other work on the machine
+/// leaves some alone.
+fn nanoseconds(case: &Case, mut side: Side) -> f64 {
+    let (lists, length) = if case.is_walk() { (30, 3) } else { (400, 1000) };
+    let ns = (0..lists).map(|n| side(&case.ticks(n * length, length), length as usize));
+    ns.min().expect("there are lists") as f64 / length as f64
 }
 
 fn main() {
     let args: Vec<String> = std::env::args().skip(1).collect();
     let all = cases();
-    if let [name, side, ticks] = args.as_slice() {
-        let case = all.iter().find(|case| case.name == name);
-        let ticks = ticks.parse().expect("a number of ticks");
-        run(case.expect("a case has this name"), side, ticks);
+    let [name, of, what] = args.as_slice() else {
+        for case in all {
+            println!("{}", case.name);
+        }
         return;
-    }
-    println!(
-        "{:34} {:>12} {:>14} {:>12}",
-        "case", "published", "emit + update", "tick"
-    );
-    for case in &all {
-        let [a, b, c] = ["published", "calls", "tick"].map(|side| best(case, side));
-        println!("{:34} {a:>12} {b:>14} {c:>12}", case.name);
+    };
+    let named = all.iter().find(|case| case.name == name);
+    let case = named.expect("a case has this name");
+    let made = || side(case, of);
+    let prepared = if case.is_walk() { WALKS } else { PREPARED };
+    if what == "ns" {
+        let times = (0..5).filter_map(|_| Some(nanoseconds(case, made()?)));
+        let best = times.reduce(f64::min);
+        println!("{}", best.map_or("-".into(), |ns| format!("{ns:.1}")));
+    } else if let Some(mut side) = made() {
+        let count = what.parse().expect("a number of ticks");
+        side(&case.ticks(0, prepared), count);
+    } else {
+        std::process::exit(3);
     }
 }

@@ -1,0 +1,7 @@
+pub mod Agreeing
+pub mod LayingOut
+pub mod Lines
+pub mod Listing
+pub mod Putting
+pub mod Regions
+pub mod Stretches

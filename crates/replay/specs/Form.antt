@@ -1,0 +1,8 @@
+-- How the calls of a block are stored. Definitions only.
+use Prim.Native.Nat.{_≤_}
+use Rattle.replay.specs.declared.form.Form.{Form}
+
+-- no block has more settings or inputs
+pub record Sized (form : Form) : Type 0 where
+  pub settings : form .settings ≤ 13
+  pub inputs : form .inputs ≤ 3

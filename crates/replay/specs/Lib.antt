@@ -1,0 +1,9 @@
+pub mod Answer
+pub mod Call
+pub mod Compare
+pub mod Form
+pub mod Line
+pub mod List
+pub mod Region
+pub mod Replay
+pub mod Stretch

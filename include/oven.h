@@ -1,0 +1,217 @@
+/*
+ * The proved control blocks for C and C++, over words. docs/BOUNDARY.md has a first program and explains each call.
+ *
+ * A block goes by its number. Settings, times, inputs, outputs and state are 64-bit words: a real (a double, IEEE 754
+ * binary64) as its bits, a boolean as 0 or 1; as an input, a setting or a stored word any word but 0 is true. oven_word
+ * and oven_real turn a double into its word and back.
+ *
+ * All memory is the caller's. A call that is refused gives its refusal and zeros, and writes nothing.
+ */
+#ifndef OVEN_H
+#define OVEN_H
+
+#include <stddef.h>
+#include <stdint.h>
+#include <string.h>
+
+#ifdef __cplusplus
+extern "C" {
+#endif
+
+/* ---- Blocks, with the inputs and the outputs of a tick. An input that a block lacks may be any word. */
+enum oven_block {
+    OVEN_PID = 0,                 /* setpoint, measurement: real */
+    OVEN_PID_WITH_RESET = 1,      /* setpoint, measurement, trigger: real */
+    OVEN_MOVING_AVERAGE = 2,      /* real: real */
+    OVEN_TIMER_ACCUMULATING = 3,  /* input, reset: real (the total), boolean (passed) */
+    OVEN_TRUE_DELAY = 4,          /* input: boolean */
+    OVEN_TRUE_FALSE_HOLD = 5,     /* input: boolean */
+    OVEN_TRUE_HOLD_WITH_RESET = 6 /* input, clear: boolean */
+};
+
+/* The controller's types. */
+enum oven_type { OVEN_TYPE_P = 0, OVEN_TYPE_PI = 1, OVEN_TYPE_PD = 2, OVEN_TYPE_PID = 3 };
+
+/* ---- Refusals. The first that applies is given: 13, then 14, then the others by their number. */
+enum oven_refusal {
+    OVEN_ACCEPTED = 0,
+    OVEN_BAD_SETTING = 2,    /* a real setting is a NaN or infinite */
+    OVEN_BAD_LENGTH = 3,     /* the region has another number of words than the block's state */
+    OVEN_BAD_TIME = 5,       /* the time is a NaN or infinite */
+    OVEN_BAD_STATE = 6,      /* a stored word is damaged: the previous time, or a ring's head or count */
+    OVEN_TIME_RUNS_BACK = 7, /* the time is below the previous one; an equal time is accepted */
+    OVEN_NO_BLOCK = 13,      /* no block has this number, or this many settings, or this controller type */
+    OVEN_BAD_TICKS = 14      /* of a run: the ticks are not four words each, or the answers not as many words */
+};
+
+/* ---- The places of the settings, and their number. */
+
+/* OVEN_PID and OVEN_PID_WITH_RESET */
+#define OVEN_PID_TYPE 0
+#define OVEN_PID_K 1
+#define OVEN_PID_TI 2
+#define OVEN_PID_TD 3
+#define OVEN_PID_R 4
+#define OVEN_PID_Y_MAX 5
+#define OVEN_PID_Y_MIN 6
+#define OVEN_PID_NI 7
+#define OVEN_PID_ND 8
+#define OVEN_PID_XI_START 9
+#define OVEN_PID_YD_START 10
+#define OVEN_PID_Y_RESET 11
+#define OVEN_PID_REVERSE_ACTING 12
+#define OVEN_PID_SETTINGS 13
+
+#define OVEN_MOVING_AVERAGE_DELTA 0
+#define OVEN_MOVING_AVERAGE_SETTINGS 1
+
+#define OVEN_TIMER_ACCUMULATING_T 0
+#define OVEN_TIMER_ACCUMULATING_SETTINGS 1
+
+#define OVEN_TRUE_DELAY_DELAY_TIME 0
+#define OVEN_TRUE_DELAY_DELAY_ON_INIT 1
+#define OVEN_TRUE_DELAY_SETTINGS 2
+
+#define OVEN_TRUE_FALSE_HOLD_TRUE_HOLD_DURATION 0
+#define OVEN_TRUE_FALSE_HOLD_FALSE_HOLD_DURATION 1
+#define OVEN_TRUE_FALSE_HOLD_SETTINGS 2
+
+#define OVEN_TRUE_HOLD_WITH_RESET_DURATION 0
+#define OVEN_TRUE_HOLD_WITH_RESET_SETTINGS 1
+
+/* ---- How many words a region has, as oven_length says too. */
+
+/* By the controller's type; P has none, with and without reset, and PD has as many. */
+#define OVEN_PID_P_LENGTH 0
+#define OVEN_PID_PI_LENGTH 2
+#define OVEN_PID_PD_LENGTH 2
+#define OVEN_PID_PID_LENGTH 3
+#define OVEN_PID_WITH_RESET_P_LENGTH 0
+#define OVEN_PID_WITH_RESET_PI_LENGTH 3
+#define OVEN_PID_WITH_RESET_PD_LENGTH 2
+#define OVEN_PID_WITH_RESET_PID_LENGTH 4
+
+/* A moving average's length goes with its delta: up to 1024 s the least one, from 65536 s on the most that any block has. */
+#define OVEN_MOVING_AVERAGE_LEAST_LENGTH 4110
+#define OVEN_MOVING_AVERAGE_MOST_LENGTH 262158
+
+#define OVEN_TIMER_ACCUMULATING_LENGTH 5
+#define OVEN_TRUE_DELAY_LENGTH 4
+#define OVEN_TRUE_FALSE_HOLD_LENGTH 3
+#define OVEN_TRUE_HOLD_WITH_RESET_LENGTH 3
+
+/* ---- The places of a decoded state's words. After a block's last come zeros. */
+
+/* OVEN_PID and OVEN_PID_WITH_RESET; what a type lacks is 0, an unset previous time, or 0 */
+#define OVEN_PID_STATE_INTEGRATOR 0
+#define OVEN_PID_STATE_PREVIOUS_TIME 1
+#define OVEN_PID_STATE_FILTER 2
+#define OVEN_PID_STATE_TRIGGER 3
+
+#define OVEN_MOVING_AVERAGE_STATE_INTEGRAL 0
+#define OVEN_MOVING_AVERAGE_STATE_START_TIME 1
+#define OVEN_MOVING_AVERAGE_STATE_PREVIOUS_TIME 2
+#define OVEN_MOVING_AVERAGE_STATE_HEAD 3
+#define OVEN_MOVING_AVERAGE_STATE_COUNT 4
+#define OVEN_MOVING_AVERAGE_STATE_COALESCED 5
+
+#define OVEN_TIMER_ACCUMULATING_STATE_TOTAL 0
+#define OVEN_TIMER_ACCUMULATING_STATE_PREVIOUS_TIME 1
+#define OVEN_TIMER_ACCUMULATING_STATE_PREVIOUS_INPUT 2
+#define OVEN_TIMER_ACCUMULATING_STATE_PREVIOUS_RESET 3
+#define OVEN_TIMER_ACCUMULATING_STATE_PASSED 4
+
+#define OVEN_TRUE_DELAY_STATE_TIMER 0
+#define OVEN_TRUE_DELAY_STATE_PREVIOUS_TIME 1
+#define OVEN_TRUE_DELAY_STATE_PREVIOUS_INPUT 2
+#define OVEN_TRUE_DELAY_STATE_HELD 3
+
+/* OVEN_TRUE_FALSE_HOLD and OVEN_TRUE_HOLD_WITH_RESET */
+#define OVEN_HOLD_STATE_HELD 0
+#define OVEN_HOLD_STATE_TIMER 1
+#define OVEN_HOLD_STATE_PREVIOUS_TIME 2
+
+/* The word of a previous time that is unset: no tick was stored yet. */
+#define OVEN_UNSET UINT64_MAX
+
+/* ---- What the calls give. */
+
+/* What a tick answers. An output that the block lacks is 0, and so is each output of an update; only a moving average warns. */
+struct oven_answer {
+    uint64_t refusal;
+    uint64_t real;    /* a double's bits */
+    uint64_t boolean; /* 0 or 1 */
+    uint64_t warning; /* 0 or 1 */
+};
+
+/* How many words a region has. */
+struct oven_length {
+    uint64_t refusal;
+    uint64_t length;
+};
+
+/* A region taken apart; all zeros beside a refusal. */
+struct oven_state {
+    uint64_t refusal;
+    uint64_t words[6];
+};
+
+/* ---- The calls. `block` is one of enum oven_block; `settings` are its settings, in the order above. */
+
+/* How many words the region of these settings has. */
+struct oven_length oven_length(uint64_t block, const uint64_t *settings, size_t settings_len);
+
+/* Writes the words of a fresh start to the region; the refusal. */
+uint64_t oven_start(uint64_t block, const uint64_t *settings, size_t settings_len,
+                    uint64_t *region, size_t region_len);
+
+/* The outputs as of a tick at this time with these inputs; the region is only read. */
+struct oven_answer oven_emit(uint64_t block, const uint64_t *settings, size_t settings_len, uint64_t time,
+                             uint64_t first, uint64_t second, uint64_t third,
+                             const uint64_t *region, size_t region_len);
+
+/* Stores that tick in the region. */
+struct oven_answer oven_update(uint64_t block, const uint64_t *settings, size_t settings_len, uint64_t time,
+                               uint64_t first, uint64_t second, uint64_t third,
+                               uint64_t *region, size_t region_len);
+
+/* A whole tick: the emit's outputs with the update's warning, and the words that the update leaves. */
+struct oven_answer oven_tick(uint64_t block, const uint64_t *settings, size_t settings_len, uint64_t time,
+                             uint64_t first, uint64_t second, uint64_t third,
+                             uint64_t *region, size_t region_len);
+
+/* Many whole ticks. A tick is four words: its time and three inputs. An answer is four words, those of struct oven_answer.
+ * A tick that is refused changes nothing, and the next goes on. It starts nothing. The refusal is of the call: 0, 13 or 14. */
+uint64_t oven_run(uint64_t block, const uint64_t *settings, size_t settings_len,
+                  const uint64_t *ticks, size_t ticks_len, uint64_t *region, size_t region_len,
+                  uint64_t *answers, size_t answers_len);
+
+/* 1 if the region is one that oven_decode takes apart, else 0. */
+uint64_t oven_sound(uint64_t block, const uint64_t *settings, size_t settings_len,
+                    const uint64_t *region, size_t region_len);
+
+/* The region taken apart into its state. The points of a moving average stay in the region. */
+struct oven_state oven_decode(uint64_t block, const uint64_t *settings, size_t settings_len,
+                              const uint64_t *region, size_t region_len);
+
+/* ---- Reals and their words. */
+
+/* The word of a real. */
+static inline uint64_t oven_word(double real) {
+    uint64_t word;
+    memcpy(&word, &real, sizeof word);
+    return word;
+}
+
+/* The real of a word. */
+static inline double oven_real(uint64_t word) {
+    double real;
+    memcpy(&real, &word, sizeof real);
+    return real;
+}
+
+#ifdef __cplusplus
+}
+#endif
+
+#endif

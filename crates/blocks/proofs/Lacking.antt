@@ -1,11 +1,10 @@
 -- An emit hands out 0.0 or false for an output that its block lacks. Assumes nothing.
 use mathlib.Core.Path.{_≡_, refl, _∙_}
-use mathlib.Core.Bool.{true, false}
+use mathlib.Core.Bool.{false}
 use mathlib.Core.List.{List}
 use Prim.Native.Nat.{ℕ}
 use lib.Ieee.{Float}
 use Rattle.reals.specs.Words.{0·0}
-use Rattle.dynamics.specs.Answer.{silent, emitted}
 use Rattle.dynamics.specs.Machine.{Machine, tickRefusal, emitAnswer}
 use Rattle.dynamics.specs.Stepped.{steppedMachine}
 use Rattle.dynamics.specs.declared.call.Answer.{Answer}

@@ -9,7 +9,6 @@ use Rattle.dynamics.specs.History.{Account}
 use Rattle.controller.specs.declared.config.ControllerType.{ControllerType}
 use Rattle.controller.specs.declared.config.ControllerType.the-variants.{P, Pi, Pd}
 use Rattle.controller.specs.declared.config.ControllerType.the-variants as type
-use Rattle.controller.specs.declared.config.ControllerConfig.{ControllerConfig}
 use Rattle.pid.specs.Account as controllers
 use Rattle.timer_accumulating.specs.Account as accumulating
 use Rattle.true_delay.specs.Account as delay

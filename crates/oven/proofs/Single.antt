@@ -1,12 +1,11 @@
 -- A run of one tick is that tick. Assumes nothing.
-use mathlib.Core.Path.{_≡_, refl, sym, ap, _∙_}
+use mathlib.Core.Path.{_≡_, sym, ap, _∙_}
 use mathlib.Core.List.{List, [], _∷_}
 use Prim.Native.Nat.{ℕ}
 use native.Mathlib.Omega.{arith}
 use lib.ListN.{length, getD}
 use Rattle.reals.specs.Words.{realOf}
 use Rattle.dynamics.specs.Answer.{silent, accept}
-use Rattle.dynamics.specs.Machine.{updatedWords, tickAnswer}
 use Rattle.dynamics.specs.Region.{Gives}
 use Rattle.blocks.specs.declared.named.Named.{Named}
 use Rattle.blocks.specs.declared.named.Named.the-variants.{Nothing}

@@ -1,7 +1,6 @@
 // The library for a controller that needs no more: start, tick and run, as `exports` has them, and nothing beside them.
 use exports::boundary::AnswerWords;
 use exports::boundary::no_answer;
-ghost use mathlib.Core.Path.{_≡_};
 ghost use Rattle.reals.specs.Words.{realOf};
 ghost use Rattle.dynamics.specs.Region.{Gives};
 ghost use Rattle.blocks.specs.Named.{namedBy};

@@ -4,8 +4,8 @@ use mathlib.Core.List.{List}
 use Prim.Native.Nat.{ℕ}
 use Rattle.dynamics.specs.Region.{Gives}
 use Rattle.dynamics.specs.declared.call.Answer.{Answer}
-use Rattle.exports.specs.Boundary.{answerWords}
+use Rattle.exports.specs.Boundary.{answerCrossed}
 use Rattle.exports.specs.declared.boundary.AnswerWords.{AnswerWords}
 
-pub in-words : {a r : Answer} {ws left : List ℕ} {x : AnswerWords} → Gives a ws r left → x ≡ answerWords r → Gives (answerWords a) ws x left
-in-words g x = record { answers = x ∙ ap answerWords (g .answers); leaves = g .leaves }
+pub in-words : {a r : Answer} {ws left : List ℕ} {x : AnswerWords} → Gives a ws r left → x ≡ answerCrossed r → Gives (answerCrossed a) ws x left
+in-words g x = record { answers = x ∙ ap answerCrossed (g .answers); leaves = g .leaves }

@@ -27,8 +27,8 @@ abbrev pub noBlock : ℕ
 noBlock = 13
 
 -- an answer and a length in words
-unfoldable pub answerWords : Answer → AnswerWords
-answerWords a = record { refusal = a .refusal; real = wordOf (a .real); boolean = wordOfFlag (a .boolean); warning = wordOfFlag (a .warning) }
+unfoldable pub answerCrossed : Answer → AnswerWords
+answerCrossed a = record { refusal = a .refusal; real = wordOf (a .real); boolean = wordOfFlag (a .boolean); warning = wordOfFlag (a .warning) }
 
 abbrev pub lengthWords : Length → LengthWords
 lengthWords l = record { refusal = l .refusal; length = l .length }

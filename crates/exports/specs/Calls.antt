@@ -14,7 +14,7 @@ use Rattle.blocks.specs.declared.named.Named.{Named}
 use Rattle.blocks.specs.declared.named.Named.the-variants.{Nothing}
 use Rattle.blocks.specs.declared.named.Named.the-variants as variant
 use Rattle.runs.specs.Run.{runRefusal, ranRegion, ranSays}
-use Rattle.exports.specs.Boundary.{noBlock, answerWords, lengthWords, decodedWords, noState}
+use Rattle.exports.specs.Boundary.{noBlock, answerCrossed, lengthWords, decodedWords, noState}
 use Rattle.exports.specs.declared.boundary.AnswerWords.{AnswerWords}
 use Rattle.exports.specs.declared.boundary.LengthWords.{LengthWords}
 use Rattle.exports.specs.declared.states.StateWords.{StateWords}
@@ -43,13 +43,13 @@ module _ (n : Named) where
 
   module _ (time : Float) (i : Inputs) (w : List ℕ) where
     abbrev pub emitSaid : AnswerWords
-    emitSaid = byName n (λ b. answerWords (emitAnswer (machineOf b) time i w)) (answerWords (silent noBlock))
+    emitSaid = byName n (λ b. answerCrossed (emitAnswer (machineOf b) time i w)) (answerCrossed (silent noBlock))
 
     abbrev pub updateSaid : AnswerWords
-    updateSaid = byName n (λ b. answerWords (updateAnswer (machineOf b) time i w)) (answerWords (silent noBlock))
+    updateSaid = byName n (λ b. answerCrossed (updateAnswer (machineOf b) time i w)) (answerCrossed (silent noBlock))
 
     abbrev pub tickSaid : AnswerWords
-    tickSaid = byName n (λ b. answerWords (tickAnswer (machineOf b) time i w)) (answerWords (silent noBlock))
+    tickSaid = byName n (λ b. answerCrossed (tickAnswer (machineOf b) time i w)) (answerCrossed (silent noBlock))
 
     -- an update and a whole tick leave the same
     abbrev pub updateLeft : List ℕ

@@ -8,7 +8,7 @@ use reals::word_of;
 use reals::word_of_flag;
 ghost use mathlib.Core.Path.{_≡_};
 ghost use Rattle.dynamics.specs.Answer.{silent};
-ghost use Rattle.exports.specs.Boundary.{answerWords, lengthWords, noBlock, Brings};
+ghost use Rattle.exports.specs.Boundary.{answerCrossed, lengthWords, noBlock, Brings};
 
 // The refusal number of words that name no block.
 pub const NO_BLOCK: u64 = 13;
@@ -31,7 +31,7 @@ pub struct LengthWords {
 
 // An answer in words.
 pub fn answer_words(a: Answer) -> AnswerWords
-    ensures { λ r. ⌜ r ≡ answerWords a ⌝ }
+    ensures { λ r. ⌜ r ≡ answerCrossed a ⌝ }
 {
     AnswerWords {
         refusal: a.refusal,
@@ -43,7 +43,7 @@ pub fn answer_words(a: Answer) -> AnswerWords
 
 // The answer where the words name no block.
 pub fn no_answer() -> AnswerWords
-    ensures { λ r. ⌜ r ≡ answerWords (silent noBlock) ⌝ }
+    ensures { λ r. ⌜ r ≡ answerCrossed (silent noBlock) ⌝ }
 {
     answer_words(silent(NO_BLOCK))
 }

@@ -11,7 +11,7 @@ use Rattle.blocks.specs.declared.named.Named.{Named}
 use Rattle.blocks.specs.declared.named.Named.the-variants.{Nothing}
 use Rattle.blocks.specs.declared.named.Named.the-variants as variant
 use Rattle.runs.specs.Run.{asked, ranWords, ranAnswers, runRefusal}
-use Rattle.exports.specs.Boundary.{noBlock, answerWords, threeInputs}
+use Rattle.exports.specs.Boundary.{noBlock, answerCrossed, threeInputs}
 use Rattle.exports.specs.Calls.{byName, updateLeft, tickSaid, RunsBy}
 use Rattle.exports.specs.declared.boundary.AnswerWords.{AnswerWords}
 
@@ -29,7 +29,7 @@ module _ (time first second third : ℕ) (w answers : List ℕ) (four : length a
 
   -- words that name no block
   pub no-tick : (n : Named) {r : ℕ} {left said : List ℕ} → RunsBy n words w answers r left said → (r ≡ 0 → ⊥)
-      → {x : AnswerWords} → x ≡ answerWords (silent noBlock)
+      → {x : AnswerWords} → x ≡ answerCrossed (silent noBlock)
       → Gives (tickSaid n (realOf time) (threeInputs first second third) w) (updateLeft n (realOf time) (threeInputs first second third) w) x left
   unfolding byName
   no-tick (variant.Block b) ran h x = absurd (h (ran .number ∙ fits))
@@ -38,7 +38,7 @@ module _ (time first second third : ℕ) (w answers : List ℕ) (four : length a
   -- a block's
   pub one-tick : (n : Named) {r : ℕ} {left said : List ℕ} → RunsBy n words w answers r left said → r ≡ 0
       → Gives (tickSaid n (realOf time) (threeInputs first second third) w) (updateLeft n (realOf time) (threeInputs first second third) w) (inOrder said) left
-  unfolding byName accept asked ranWords ranAnswers answerWords threeInputs
+  unfolding byName accept asked ranWords ranAnswers answerCrossed threeInputs
   one-tick (variant.Block b) ran z = record {
     answers = ap inOrder (rw fits at (ran .says));
     leaves = rw fits at (ran .leaves);

@@ -1,7 +1,7 @@
 -- `oven_emit` is the block's. Assumes nothing.
 use mathlib.Core.Path.{ap, _∙_}
 use Rattle.exports.specs.Calls.{byName}
-use Rattle.exports.specs.Boundary.{answerWords}
+use Rattle.exports.specs.Boundary.{answerCrossed}
 use borrow.Author.Needs.{needs}
 use Rattle.exports.proofs.calls.oven_emit.Statement.{statement}
 use Rattle.exports.proofs.calls.oven_emit.Tie as tie
@@ -12,7 +12,7 @@ returns c = rw (← c .before .before .before .block-of .ensures, c .before .enu
 
 returns-2 : tie.Need-returns-2
 unfolding byName
-returns-2 c = rw (← c .before .before .before .before .before .before .block-of .ensures, c .before .before .before .before .named .given .1, ← c .before .before .tick-of .ensures .at-time, ← c .before .before .tick-of .ensures .inputs) (c .answer-words .ensures ∙ ap answerWords (c .before .emit .ensures))
+returns-2 c = rw (← c .before .before .before .before .before .before .block-of .ensures, c .before .before .before .before .named .given .1, ← c .before .before .tick-of .ensures .at-time, ← c .before .before .tick-of .ensures .inputs) (c .answer-words .ensures ∙ ap answerCrossed (c .before .emit .ensures))
 
 pub oven-emit-spec : {M : Type 1} → statement M
 oven-emit-spec = tie.close (tie.spec (λ c κs. search needs) (λ c. search needs) (λ c. search needs) (λ c κs. search needs) returns (λ c κs. search needs) (λ c κs. search needs) (λ c κs. search needs) returns-2)

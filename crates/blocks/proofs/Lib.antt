@@ -2,5 +2,6 @@ pub mod Decoding
 pub mod OneResult
 pub mod Wiping
 pub mod Lengths
+pub mod Admitted
 pub mod Lacking
 pub mod Names

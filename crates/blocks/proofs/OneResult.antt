@@ -11,6 +11,10 @@ use Rattle.blocks.proofs.decode.Reads as decode
 use Rattle.blocks.proofs.emit.Reads as emit
 use Rattle.blocks.proofs.update.Reads as update
 use Rattle.blocks.proofs.tick.Reads as tick
+use Rattle.blocks.proofs.row.size_of.Reads as size
+use Rattle.blocks.proofs.row.state_refusal.Reads as state-refusal
+use Rattle.blocks.proofs.row.tick_admitted.Reads as admitted
+use Rattle.blocks.proofs.block.answer_words.Reads as answer-words
 
 pub block-of-once : Once block-of.Post
 block-of-once κs a x y s t p q = p ∙ sym q
@@ -27,6 +31,15 @@ decode-once κs a x y s t p q = p ∙ sym q
 pub emit-once : Once emit.Post
 emit-once κs a x y s t p q = p ∙ sym q
 
+pub size-once : Once size.Post
+size-once κs a x y s t p q = p ∙ sym q
+
+pub state-refusal-once : Once state-refusal.Post
+state-refusal-once κs a x y s t p q = p ∙ sym q
+
+pub answer-words-once : Once answer-words.Post
+answer-words-once κs a x y s t p q = p ∙ sym q
+
 pub start-once : OnceLeft start.Post (λ κs s. now (s .1 .0))
 start-once κs a x y s t p q = one-result p q
 
@@ -35,3 +48,6 @@ update-once κs a x y s t p q = one-result p q
 
 pub tick-once : OnceLeft tick.Post (λ κs s. now (s .1 .1 .0))
 tick-once κs a x y s t p q = one-result p q
+
+pub admitted-once : OnceLeft admitted.Post (λ κs s. now (s .1 .1 .1 .0))
+admitted-once κs a x y s t p q = one-result p q

@@ -16,6 +16,7 @@ use Rattle.true_hold_with_reset.specs.TrueHoldWithReset as reset-hold
 use Rattle.blocks.specs.declared.block.Block.{Block}
 use Rattle.blocks.specs.declared.block.Block.the-variants.{Pid, PidWithReset, MovingAverage, TimerAccumulating, TrueDelay, TrueFalseHold, TrueHoldWithReset}
 use Rattle.blocks.specs.declared.block.Tick.{Tick}
+use Rattle.blocks.specs.declared.block.OutputWords.{OutputWords}
 
 -- each block is its own machine
 unfoldable pub machineOf : Block → Machine
@@ -57,16 +58,12 @@ outputsOf (TrueFalseHold long-true long-false) = boolean
 outputsOf (TrueHoldWithReset duration) = boolean
 
 -- an answer as two words: the real or boolean output, then the second output or 0
-pub record TwoWords : Type 0 where
-  pub first : ℕ
-  pub second : ℕ
-
-abbrev pub handed : Hands → Answer → TwoWords
+abbrev pub handed : Hands → Answer → OutputWords
 handed real a = record { first = wordOf (a .real); second = 0 }
 handed boolean a = record { first = wordOfFlag (a .boolean); second = 0 }
 handed both a = record { first = wordOf (a .real); second = wordOfFlag (a .boolean) }
 
-abbrev pub answerWords : Block → Answer → TwoWords
+abbrev pub answerWords : Block → Answer → OutputWords
 answerWords b a = handed (outputsOf b) a
 
 -- what a start writes: exactly the state length

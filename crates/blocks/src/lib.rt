@@ -2,9 +2,12 @@
 mod block;
 mod decoded;
 mod named;
+mod row;
 
 pub use block::Block;
+pub use block::OutputWords;
 pub use block::Tick;
+pub use block::answer_words;
 use block::inputs_of;
 pub use decoded::Decoded;
 pub use decoded::State;
@@ -18,6 +21,9 @@ use dynamics::Length;
 use moving_average::MovingAverage;
 pub use named::Named;
 pub use named::block_of;
+pub use row::size_of;
+pub use row::state_refusal;
+pub use row::tick_admitted;
 use timer_accumulating::TimerAccumulating;
 use true_delay::TrueDelay;
 use true_false_hold::TrueFalseHold;

@@ -7,9 +7,9 @@ use lib.Ieee.{Float}
 use lib.Dec.{eqb}
 use lib.ListN.{length}
 use Rattle.dynamics.specs.Previous.{soundPrevious}
-use Rattle.dynamics.specs.Answer.{silent, emitted, formRefusal, timeRefusal}
+use Rattle.dynamics.specs.Answer.{silent, emitted, formRefusal, laterRefusal, timeRefusal}
 use Rattle.dynamics.specs.Region.{stored, Gives}
-use Rattle.dynamics.specs.Machine.{Machine, startRefusal, startedWords, decodeRefusal, decodeAnswer, isSound, tickRefusal, emitAnswer, updateAnswer, updatedWords, tickAnswer}
+use Rattle.dynamics.specs.Machine.{Machine, startRefusal, startedWords, decodeRefusal, decodeAnswer, isSound, tickRefusal, stateRefusal, emitAnswer, updateAnswer, updatedWords, tickAnswer, admittedAnswer, admittedWords}
 use Rattle.dynamics.specs.Stepped.{Stepped, steppedMachine}
 use Rattle.dynamics.specs.declared.call.Answer.{Answer}
 use Rattle.dynamics.specs.declared.call.Inputs.{Inputs}
@@ -74,6 +74,17 @@ module _ {X S D : Type 0} (O : Opens X S D) (b : X) where
         pub tick-then : {x : Answer} → x ≡ emitted (B .output s time i) → Gives (tickAnswer M time i w) (updatedWords M time i w) x w'
         unfolding steppedMachine
         tick-then x = tick-accepted M time i w good (x ∙ ap (λ (q : S). emitted (B .output q time i)) same) left
+
+  -- ---- without the tests that a sheet makes over all its rows: the state is what the words mean
+  module _ (time : Float) (w : List ℕ) {s : S} (e : s ≡ B .stateOf w) where
+    pub state-tested : {d : Bool} {k : ℕ} → d ≡ soundPrevious (B .previous s) → k ≡ laterRefusal time d (B .previous s) → k ≡ stateRefusal M time w
+    unfolding stateRefusal laterRefusal steppedMachine
+    state-tested sound t = rw (sound, e) at t
+
+    pub admitted-then : (i : Inputs) {s' : S} {w' : List ℕ} {x : Answer} → s' ≡ B .advance s time i → w' ≡ stored w (B .wordsOf s') → x ≡ emitted (B .output s time i)
+        → Gives (admittedAnswer M time i w) (admittedWords M time i w) x w'
+    unfolding admittedAnswer admittedWords steppedMachine
+    admitted-then i n l x = record { answers = rw e at x; leaves = rw (n, e) at l }
 
   -- ---- opening, in the order of the table: tests 2 and 3, then the state is read, then the others
   module _ (w : List ℕ) {a : Bool} (settings : a ≡ B .accepts) {n : ℕ} (formed : n ≡ formRefusal a (eqb (length w) (B .size))) where

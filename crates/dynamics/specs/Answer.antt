@@ -62,9 +62,12 @@ refusalOf true true true true true true true = 0
 abbrev pub skipped : Bool
 skipped = true
 
--- tests 2 and 3 alone, and tests 5 to 7 of a tick at this time
+-- tests 2 and 3 alone, tests 6 and 7 alone, and tests 5 to 7 of a tick at this time
 unfoldable pub formRefusal : (settings length : Bool) → ℕ
 formRefusal settings length = refusalOf skipped settings length skipped skipped skipped skipped
+
+unfoldable pub laterRefusal : Float → Bool → Previous → ℕ
+laterRefusal time decodes previous = refusalOf skipped skipped skipped skipped skipped decodes (not (runsBack time previous))
 
 unfoldable pub timeRefusal : Float → Bool → Previous → ℕ
 timeRefusal time decodes previous = refusalOf skipped skipped skipped skipped (finite time) decodes (not (runsBack time previous))

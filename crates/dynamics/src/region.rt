@@ -4,7 +4,7 @@ use crate::previous::previous_of;
 use reals::flag_of;
 use reals::real_of;
 ghost use mathlib.Core.Path.{_≡_};
-ghost use lib.ListN.{getD};
+ghost use lib.ListN.{length, getD, replicate};
 ghost use Rattle.reals.specs.Words.{realOf, flagOf};
 ghost use Rattle.dynamics.specs.Previous.{previousOf};
 ghost use Rattle.dynamics.specs.Region.{stored};
@@ -51,5 +51,16 @@ pub fn store(region: &mut [u64], words: &[u64])
             region[i] = words[i];
             i += 1;
         }
+    }
+}
+
+// Every word 0.
+pub fn clear(region: &mut [u64])
+    ensures { λ _. ⌜ now (region .exit) ≡ replicate (length (now (region .entry))) 0 ⌝ }
+{
+    let mut i: usize = 0;
+    while i < region.len() {
+        region[i] = 0;
+        i += 1;
     }
 }

@@ -1,5 +1,7 @@
 // What the two holds share: their state, its three words in a region, and how a region is started and taken apart.
+use dynamics::Answer;
 use dynamics::Previous;
+use dynamics::boolean_answer;
 use dynamics::flag_at;
 use dynamics::form_refusal;
 use dynamics::previous_at;
@@ -11,9 +13,11 @@ use dynamics::word_of_previous;
 use reals::word_of;
 use reals::word_of_flag;
 ghost use mathlib.Core.Path.{_≡_};
+ghost use mathlib.Core.Bool.{true};
+ghost use Rattle.dynamics.specs.Answer.{emitted};
 ghost use Rattle.dynamics.specs.Region.{stored, Gives};
-ghost use Rattle.dynamics.specs.Machine.{startRefusal, decodeRefusal, tickRefusal, startedWords};
-ghost use Rattle.hold.specs.Hold.{initial, stateOf, wordsOf, bare, opened, reads};
+ghost use Rattle.dynamics.specs.Machine.{startRefusal, decodeRefusal, tickRefusal, stateRefusal, startedWords};
+ghost use Rattle.hold.specs.Hold.{initial, stateOf, wordsOf, outputs, bare, opened, reads};
 
 // Which word is which.
 const HELD_WORD: usize = 0;
@@ -22,6 +26,7 @@ const TIMER_WORD: usize = 1;
 
 const PREV_T_WORD: usize = 2;
 
+// How many words a hold's region has.
 pub const STATE_LEN: usize = 3;
 
 // The output and the stored timer, and the time of the previous tick.
@@ -59,7 +64,7 @@ fn init_state() -> State
 }
 
 // What a region's words mean.
-fn state_of(region: &[u64]) -> State
+pub fn state_of(region: &[u64]) -> State
     ensures { λ r. ⌜ r ≡ stateOf (now (region .entry)) ⌝ }
 {
     State {
@@ -125,4 +130,21 @@ pub fn admit(accepted: bool, time: f64, region: &[u64]) -> Decoded
         return Decoded::Refused(k);
     }
     Decoded::State(s)
+}
+
+// Tests 6 and 7 alone, for a tick whose form and time are right; they ask nothing of the settings.
+pub fn state_refusal(time: f64, region: &[u64]) -> u64
+    ensures { λ r. ⌜ r ≡ stateRefusal (bare true) time (now (region .entry)) ⌝ }
+{
+    let s = state_of(region);
+    let previous = s.previous;
+    dynamics::state_refusal(time, previous_sound(previous), previous)
+}
+
+// Ends a tick: stores the state after it, and answers with its outputs.
+pub fn finish(region: &mut [u64], after: State) -> Answer
+    ensures { λ r. ⌜ Gives (emitted (outputs after)) (stored (now (region .entry)) (wordsOf after)) r (now (region .exit)) ⌝ }
+{
+    write(region, after);
+    boolean_answer(after.held)
 }

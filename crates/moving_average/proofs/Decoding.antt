@@ -11,9 +11,9 @@ use lib.Ieee.{Float, ofBits}
 use lib.Ieee.Scale.{finite}
 use lib.Ieee.Fits.{and-l, and-r}
 use Rattle.dynamics.specs.Previous.{unset, previousOf, soundPrevious}
-use Rattle.dynamics.specs.Answer.{formRefusal, timeRefusal}
+use Rattle.dynamics.specs.Answer.{formRefusal, laterRefusal, timeRefusal}
 use Rattle.dynamics.specs.Region.{Gives}
-use Rattle.dynamics.specs.Machine.{sized, startRefusal, startedWords, decodeRefusal, tickRefusal}
+use Rattle.dynamics.specs.Machine.{sized, startRefusal, startedWords, decodeRefusal, tickRefusal, stateRefusal}
 use Rattle.dynamics.specs.declared.call.Inputs.{Inputs}
 use Rattle.dynamics.proofs.Calls.{start-accepted, start-sized, tick-sized, tick-decodes}
 use Rattle.dynamics.proofs.Opening.{Enum, fine}
@@ -115,6 +115,12 @@ module _ (b : MovingAverage) (w : List ℕ) {g : RingGeometry} (shaped : g ≡ g
 
         pub admit-else : (k ≡ 0 → ⊥) → Refused k ≡ opened (tickRefusal (machine b) time w) w
         admit-else = opening.admit-else decoded (machine b) stateOf w known tested good e told time before t
+
+-- ---- tests 6 and 7 alone, on the state that the words mean
+pub state-tested : (b : MovingAverage) (w : List ℕ) {g : RingGeometry} → g ≡ geometryOf (b .delta) → {s : State} → s ≡ stateOf w → {d : Bool} → d ≡ decodable s (g .capacity)
+    → (time : Float) {k : ℕ} → k ≡ laterRefusal time d (s .previous) → k ≡ stateRefusal (machine b) time w
+unfolding stateRefusal laterRefusal machineFor
+state-tested b w shaped e tests time t = rw (tests, shaped, e) at t
 
 -- ---- the ring of an accepted tick stands in its region
 within : (s : State) (cap : ℕ) → decodable s cap ≡ true → (s .head < cap) × (s .count ≤ cap)

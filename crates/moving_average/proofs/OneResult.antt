@@ -10,6 +10,7 @@ use Rattle.moving_average.proofs.decode.Reads as decode
 use Rattle.moving_average.proofs.emit.Reads as emit
 use Rattle.moving_average.proofs.update.Reads as update
 use Rattle.moving_average.proofs.tick.Reads as tick
+use Rattle.moving_average.proofs.state_refusal.Reads as state-refusal
 
 pub length-once : Once length.Post
 length-once κs a x y s t p q = p ∙ sym q
@@ -22,6 +23,9 @@ decode-once κs a x y s t p q = p ∙ sym q
 
 pub emit-once : Once emit.Post
 emit-once κs a x y s t p q = p ∙ sym q
+
+pub state-refusal-once : Once state-refusal.Post
+state-refusal-once κs a x y s t p q = p ∙ sym q
 
 pub start-once : OnceLeft start.Post (λ κs s. now (s .1 .0))
 start-once κs a x y s t p q = one-result p q

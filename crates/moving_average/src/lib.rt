@@ -12,6 +12,7 @@ use dynamics::Answer;
 use dynamics::Inputs;
 use dynamics::Length;
 use dynamics::PREV_T_UNSET;
+use dynamics::clear;
 use dynamics::form_refusal;
 use dynamics::length_answer;
 use dynamics::real_answer;
@@ -23,7 +24,6 @@ use reals::is_finite;
 use reals::real_of;
 pub use state::Decoded;
 pub use state::State;
-use state::clear;
 use state::decodes;
 pub use state::number_of;
 use state::state_of;
@@ -31,7 +31,7 @@ use window::RingGeometry;
 use window::geometry;
 ghost use mathlib.Core.Path.{_≡_};
 ghost use Rattle.dynamics.specs.Region.{Gives};
-ghost use Rattle.dynamics.specs.Machine.{lengthAnswer, startRefusal, decodeRefusal, tickRefusal, startedWords, isSound, emitAnswer, updateAnswer, updatedWords, tickAnswer};
+ghost use Rattle.dynamics.specs.Machine.{lengthAnswer, startRefusal, decodeRefusal, tickRefusal, stateRefusal, startedWords, isSound, emitAnswer, updateAnswer, updatedWords, tickAnswer};
 ghost use Rattle.window.specs.Geometry.{geometryOf};
 ghost use Rattle.moving_average.specs.MovingAverage.{machine, opened};
 
@@ -101,6 +101,16 @@ fn admit(settings: MovingAverage, shape: RingGeometry, time: f64, region: &[u64]
         return Decoded::Refused(k);
     }
     Decoded::State(s)
+}
+
+// Tests 6 and 7 alone, for a tick whose form and time are right. The refusal number; 0 is accepted.
+pub fn state_refusal(settings: MovingAverage, time: f64, region: &[u64]) -> u64
+    ensures { λ r. ⌜ r ≡ stateRefusal (machine settings) time (now (region .entry)) ⌝ }
+{
+    let shape = geometry(settings.delta);
+    let s = state_of(region);
+    let previous = s.previous;
+    dynamics::state_refusal(time, decodes(s, shape.capacity), previous)
 }
 
 // The mean as of this tick; nothing is stored.

@@ -1,13 +1,12 @@
 // The words ahead of the ring: what they mean, and which of them decode.
 use crate::ring::Ring;
 use dynamics::Previous;
-use dynamics::previous_of;
+use dynamics::flag_at;
+use dynamics::previous_at;
 use dynamics::previous_sound;
-use reals::flag_of;
-use reals::real_of;
+use dynamics::real_at;
+use dynamics::word_at;
 ghost use mathlib.Core.Path.{_≡_};
-ghost use Prim.Native.Nat.{_≤_};
-ghost use lib.ListN.{length, replicate};
 ghost use Rattle.moving_average.specs.MovingAverage.{stateOf, ringOf, decodable, reads};
 
 // The integral of the input, when the first tick came and when the previous one, where the ring begins and how many
@@ -39,16 +38,15 @@ pub fn number_of(d: Decoded) -> u64
 
 // What a region's first words mean.
 pub(crate) fn state_of(region: &[u64]) -> State
-    requires { ⌜ 6 ≤ length (now region) ⌝ }
     ensures { λ r. ⌜ r ≡ stateOf (now (region .entry)) ⌝ }
 {
     State {
-        mu: real_of(region[0]),
-        t_start: real_of(region[1]),
-        previous: previous_of(region[2]),
-        head: region[3] as usize,
-        count: region[4] as usize,
-        coalesced: flag_of(region[5]),
+        mu: real_at(region, 0),
+        t_start: real_at(region, 1),
+        previous: previous_at(region, 2),
+        head: word_at(region, 3) as usize,
+        count: word_at(region, 4) as usize,
+        coalesced: flag_at(region, 5),
     }
 }
 
@@ -68,16 +66,5 @@ pub(crate) fn ring_of(s: State, capacity: usize) -> Ring
         capacity,
         head: s.head,
         count: s.count,
-    }
-}
-
-// Every word 0.
-pub(crate) fn clear(region: &mut [u64])
-    ensures { λ _. ⌜ now (region .exit) ≡ replicate (length (now (region .entry))) 0 ⌝ }
-{
-    let mut i: usize = 0;
-    while i < region.len() {
-        region[i] = 0;
-        i += 1;
     }
 }

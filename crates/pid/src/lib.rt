@@ -23,14 +23,15 @@ use reals::flag_of;
 use reals::real_of;
 pub use state::Decoded;
 pub use state::number_of;
-use state::state_len;
+use state::previous_in;
+pub use state::state_len;
 use state::state_of;
 use state::write;
 ghost use mathlib.Core.Path.{_≡_};
 ghost use lib.Dec.{eqb};
 ghost use Rattle.dynamics.specs.Answer.{formRefusal};
 ghost use Rattle.dynamics.specs.Region.{stored, Gives};
-ghost use Rattle.dynamics.specs.Machine.{lengthAnswer, startRefusal, decodeRefusal, tickRefusal, startedWords, isSound, emitAnswer, updateAnswer, updatedWords, tickAnswer};
+ghost use Rattle.dynamics.specs.Machine.{lengthAnswer, startRefusal, decodeRefusal, tickRefusal, stateRefusal, startedWords, isSound, emitAnswer, updateAnswer, updatedWords, tickAnswer, admittedAnswer, admittedWords};
 ghost use Rattle.controller.specs.Settings.{settingsAccepted};
 ghost use Rattle.controller.specs.Recurrence.{termsOf, nextState};
 ghost use Rattle.pid.specs.Pid.{stateLength, wordsOf, initial, heard, machine, opened};
@@ -126,6 +127,14 @@ fn admit(settings: ControllerConfig, with_reset: bool, time: f64, region: &[u64]
     Decoded::State(s)
 }
 
+// Tests 6 and 7 alone, for a tick whose form and time are right. The refusal number; 0 is accepted.
+pub fn state_refusal(settings: ControllerConfig, with_reset: bool, time: f64, region: &[u64]) -> u64
+    ensures { λ r. ⌜ r ≡ stateRefusal (machine «with_reset» settings) time (now (region .entry)) ⌝ }
+{
+    let previous = previous_in(region, settings);
+    dynamics::state_refusal(time, previous_sound(previous), previous)
+}
+
 // The output as of this tick, from the integrator before it; nothing is stored.
 pub fn emit(
     settings: ControllerConfig,
@@ -198,6 +207,21 @@ pub fn tick(
     let Decoded::State(s) = met else {
         return silent(number_of(met));
     };
+    let terms = step(settings, with_reset, s, time, inputs, region);
+    real_answer(terms.y)
+}
+
+// A whole tick that was admitted before: no test is made.
+pub fn tick_admitted(
+    settings: ControllerConfig,
+    with_reset: bool,
+    time: f64,
+    inputs: Inputs,
+    region: &mut [u64],
+) -> Answer
+    ensures { λ r. ⌜ Gives (admittedAnswer (machine «with_reset» settings) time inputs (now (region .entry))) (admittedWords (machine «with_reset» settings) time inputs (now (region .entry))) r (now (region .exit)) ⌝ }
+{
+    let s = state_of(region, settings, with_reset);
     let terms = step(settings, with_reset, s, time, inputs, region);
     real_answer(terms.y)
 }

@@ -1,25 +1,19 @@
--- Regions cleared and compared, one word further on.
+-- Regions compared, one word further on.
 use Prim.Native.Nat.{ℕ, suc, _+_, _≤_, _<_}
 use mathlib.Core.Path.{_≡_, refl, sym, ap, _∙_}
-use mathlib.Core.List.{List, [], _∷_, _++_, append-nil}
+use mathlib.Core.List.{List, [], _∷_}
 use mathlib.Core.Bool.{Bool, true, false, cond}
 use native.Mathlib.Numerals.{add-one}
 use borrow.Author.Tests.{eq-eqb, ne-eqb, eqb-true}
 use lib.Dec.{eqb}
 use native.Mathlib.Omega.{arith}
-use lib.ListN.{length, take, drop, getD, replicate, drop-of-length-le}
+use lib.ListN.{length, take, drop, getD, drop-of-length-le}
 use lib.Seq.{drop-cons, length-take-le}
 use Rattle.replay.specs.Region.{sameWords}
 
 -- the first n words of each are as many
 pub equal-parts : (n : ℕ) (a b : List ℕ) → n ≤ length a → n ≤ length b → length (take n a) ≡ length (take n b)
 equal-parts n a b h k = length-take-le n a h ∙ sym (length-take-le n b k)
-
--- all are cleared
-pub cleared-all : (old : List ℕ) (i : ℕ) → i ≡ length old → replicate i 0 ++ drop i old ≡ replicate (length old) 0
-cleared-all old i e =
-    let h : length old ≤ i = omega arith in
-    rw (drop-of-length-le old h, append-nil) (ap (λ (n : ℕ). replicate n 0) e)
 
 -- the words at i, and those after them
 module _ (a b : List ℕ) (i : ℕ) (in-a : i < length a) (in-b : i < length b) where

@@ -1,4 +1,5 @@
 // A region's stored words, put into a lent region and compared.
+use dynamics::clear;
 use dynamics::store;
 ghost use mathlib.Core.Path.{_≡_};
 ghost use lib.ListN.{length, replicate};
@@ -9,17 +10,6 @@ ghost use Rattle.replay.specs.Region.{PutIn, sameWords};
 pub enum Next {
     At(usize),
     Bad,
-}
-
-// Makes every word 0.
-fn clear(region: &mut [u64])
-    ensures { λ _. ⌜ now (region .exit) ≡ replicate (length (now (region .entry))) 0 ⌝ }
-{
-    let mut i = 0;
-    while i < region.len() {
-        region[i] = 0;
-        i += 1;
-    }
 }
 
 // Puts in all words.

@@ -14,16 +14,17 @@ use dynamics::silent;
 use dynamics::time_refusal;
 use reals::is_finite;
 pub use state::Decoded;
-use state::STATE_LEN;
+pub use state::STATE_LEN;
 pub use state::State;
 pub use state::number_of;
 use state::state_of;
 use state::write;
 use step::step;
 ghost use mathlib.Core.Path.{_≡_};
-ghost use Rattle.dynamics.specs.Region.{Gives};
-ghost use Rattle.dynamics.specs.Machine.{lengthAnswer, startRefusal, decodeRefusal, tickRefusal, startedWords, isSound, emitAnswer, updateAnswer, updatedWords, tickAnswer};
-ghost use Rattle.timer_accumulating.specs.TimerAccumulating.{settingsAccepted, initial, machine, opened};
+ghost use Rattle.dynamics.specs.Answer.{emitted};
+ghost use Rattle.dynamics.specs.Region.{stored, Gives};
+ghost use Rattle.dynamics.specs.Machine.{lengthAnswer, startRefusal, decodeRefusal, tickRefusal, stateRefusal, startedWords, isSound, emitAnswer, updateAnswer, updatedWords, tickAnswer, admittedAnswer, admittedWords};
+ghost use Rattle.timer_accumulating.specs.TimerAccumulating.{settingsAccepted, initial, machine, opened, outputs, wordsOf};
 
 // It passes when the total reaches t.
 pub struct TimerAccumulating {
@@ -107,6 +108,15 @@ fn admit(settings: TimerAccumulating, time: f64, region: &[u64]) -> Decoded
     Decoded::State(s)
 }
 
+// Tests 6 and 7 alone, for a tick whose form and time are right. The refusal number; 0 is accepted.
+pub fn state_refusal(settings: TimerAccumulating, time: f64, region: &[u64]) -> u64
+    ensures { λ r. ⌜ r ≡ stateRefusal (machine settings) time (now (region .entry)) ⌝ }
+{
+    let s = state_of(region);
+    let previous = s.previous;
+    dynamics::state_refusal(time, previous_sound(previous), previous)
+}
+
 // The total and passed as of this tick; nothing is stored.
 pub fn emit(settings: TimerAccumulating, time: f64, inputs: Inputs, region: &[u64]) -> Answer
     ensures { λ r. ⌜ r ≡ emitAnswer (machine settings) time inputs (now (region .entry)) ⌝ }
@@ -131,6 +141,14 @@ pub fn update(settings: TimerAccumulating, time: f64, inputs: Inputs, region: &m
     silent(0)
 }
 
+// Ends a tick: stores the state after it, and answers with its outputs.
+fn finish(region: &mut [u64], after: State) -> Answer
+    ensures { λ r. ⌜ Gives (emitted (outputs after)) (stored (now (region .entry)) (wordsOf after)) r (now (region .exit)) ⌝ }
+{
+    write(region, after);
+    both_answer(after.total, after.passed)
+}
+
 // A whole tick, an emit and then an update, with every test made once.
 pub fn tick(settings: TimerAccumulating, time: f64, inputs: Inputs, region: &mut [u64]) -> Answer
     ensures { λ r. ⌜ Gives (tickAnswer (machine settings) time inputs (now (region .entry))) (updatedWords (machine settings) time inputs (now (region .entry))) r (now (region .exit)) ⌝ }
@@ -139,7 +157,18 @@ pub fn tick(settings: TimerAccumulating, time: f64, inputs: Inputs, region: &mut
     let Decoded::State(s) = met else {
         return silent(number_of(met));
     };
-    let after = step(settings, s, time, inputs);
-    write(region, after);
-    both_answer(after.total, after.passed)
+    finish(region, step(settings, s, time, inputs))
+}
+
+// A whole tick that was admitted before: no test is made.
+pub fn tick_admitted(
+    settings: TimerAccumulating,
+    time: f64,
+    inputs: Inputs,
+    region: &mut [u64],
+) -> Answer
+    ensures { λ r. ⌜ Gives (admittedAnswer (machine settings) time inputs (now (region .entry))) (admittedWords (machine settings) time inputs (now (region .entry))) r (now (region .exit)) ⌝ }
+{
+    let s = state_of(region);
+    finish(region, step(settings, s, time, inputs))
 }

@@ -22,6 +22,7 @@ const PREV_RESET_WORD: usize = 3;
 
 const PASSED_WORD: usize = 4;
 
+// How many words its region has.
 pub const STATE_LEN: usize = 5;
 
 // The total, and of the previous tick its time, its input and reset, and whether the timer had passed.

@@ -20,6 +20,7 @@ const PREV_U_WORD: usize = 2;
 
 const HELD_WORD: usize = 3;
 
+// How many words its region has.
 pub const STATE_LEN: usize = 4;
 
 // The timer, and of the previous tick its time, its input and its output.

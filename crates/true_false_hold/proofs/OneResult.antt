@@ -10,6 +10,8 @@ use Rattle.true_false_hold.proofs.decode.Reads as decode
 use Rattle.true_false_hold.proofs.emit.Reads as emit
 use Rattle.true_false_hold.proofs.update.Reads as update
 use Rattle.true_false_hold.proofs.tick.Reads as tick
+use Rattle.true_false_hold.proofs.state_refusal.Reads as state-refusal
+use Rattle.true_false_hold.proofs.tick_admitted.Reads as admitted
 
 pub length-once : Once length.Post
 length-once κs a x y s t p q = p ∙ sym q
@@ -23,6 +25,9 @@ decode-once κs a x y s t p q = p ∙ sym q
 pub emit-once : Once emit.Post
 emit-once κs a x y s t p q = p ∙ sym q
 
+pub state-refusal-once : Once state-refusal.Post
+state-refusal-once κs a x y s t p q = p ∙ sym q
+
 pub start-once : OnceLeft start.Post (λ κs s. now (s .1 .0))
 start-once κs a x y s t p q = one-result p q
 
@@ -31,3 +36,6 @@ update-once κs a x y s t p q = one-result p q
 
 pub tick-once : OnceLeft tick.Post (λ κs s. now (s .1 .1 .1 .0))
 tick-once κs a x y s t p q = one-result p q
+
+pub admitted-once : OnceLeft admitted.Post (λ κs s. now (s .1 .1 .1 .0))
+admitted-once κs a x y s t p q = one-result p q

@@ -8,16 +8,18 @@ use dynamics::boolean_answer;
 use dynamics::length_answer;
 use dynamics::silent;
 pub use hold::Decoded;
-use hold::STATE_LEN;
+pub use hold::STATE_LEN;
 pub use hold::State;
 use hold::admit;
+use hold::finish;
 pub use hold::number_of;
+use hold::state_of;
 use hold::write;
 use reals::is_finite;
 use step::step;
 ghost use mathlib.Core.Path.{_≡_};
 ghost use Rattle.dynamics.specs.Region.{Gives};
-ghost use Rattle.dynamics.specs.Machine.{lengthAnswer, startRefusal, decodeRefusal, startedWords, isSound, emitAnswer, updateAnswer, updatedWords, tickAnswer};
+ghost use Rattle.dynamics.specs.Machine.{lengthAnswer, startRefusal, decodeRefusal, stateRefusal, startedWords, isSound, emitAnswer, updateAnswer, updatedWords, tickAnswer, admittedAnswer, admittedWords};
 ghost use Rattle.hold.specs.Hold.{opened};
 ghost use Rattle.true_hold_with_reset.specs.TrueHoldWithReset.{settingsAccepted, machine};
 
@@ -60,6 +62,13 @@ pub fn sound(settings: TrueHoldWithReset, region: &[u64]) -> bool
     number_of(decode(settings, region)) == 0
 }
 
+// Tests 6 and 7 alone, for a tick whose form and time are right. The refusal number; 0 is accepted.
+pub fn state_refusal(settings: TrueHoldWithReset, time: f64, region: &[u64]) -> u64
+    ensures { λ r. ⌜ r ≡ stateRefusal (machine settings) time (now (region .entry)) ⌝ }
+{
+    hold::state_refusal(time, region)
+}
+
 // The output as of this tick; nothing is stored.
 pub fn emit(settings: TrueHoldWithReset, time: f64, inputs: Inputs, region: &[u64]) -> Answer
     ensures { λ r. ⌜ r ≡ emitAnswer (machine settings) time inputs (now (region .entry)) ⌝ }
@@ -92,7 +101,18 @@ pub fn tick(settings: TrueHoldWithReset, time: f64, inputs: Inputs, region: &mut
     let Decoded::State(s) = met else {
         return silent(number_of(met));
     };
-    let after = step(settings, s, time, inputs);
-    write(region, after);
-    boolean_answer(after.held)
+    finish(region, step(settings, s, time, inputs))
+}
+
+// A whole tick that was admitted before: no test is made.
+pub fn tick_admitted(
+    settings: TrueHoldWithReset,
+    time: f64,
+    inputs: Inputs,
+    region: &mut [u64],
+) -> Answer
+    ensures { λ r. ⌜ Gives (admittedAnswer (machine settings) time inputs (now (region .entry))) (admittedWords (machine settings) time inputs (now (region .entry))) r (now (region .exit)) ⌝ }
+{
+    let s = state_of(region);
+    finish(region, step(settings, s, time, inputs))
 }

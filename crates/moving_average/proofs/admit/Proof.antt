@@ -1,6 +1,6 @@
 -- `admit` makes each test once, in the table's order. Assumes nothing.
 use native.Mathlib.Omega.{arith}
-use Rattle.moving_average.proofs.Decoding.{admit-form, admit-then, admit-else, has-six}
+use Rattle.moving_average.proofs.Decoding.{admit-form, admit-then, admit-else}
 use borrow.Author.Needs.{needs}
 use Rattle.moving_average.proofs.admit.Statement.{statement}
 use Rattle.moving_average.proofs.admit.Tie as tie
@@ -9,11 +9,6 @@ returns : tie.Need-returns
 returns c = let at-is-finite = c .before .before .before in
     let at-args = at-is-finite .before .before in
     admit-form (at-args .args .settings) _ (at-args .pre) (at-is-finite .is-finite .ensures) (c .before .form-refusal .ensures) (λ z. omega arith) _
-
-state-of-requires : tie.Need-state-of-requires
-state-of-requires c κs = let at-is-finite = c .before .before .before in
-    let at-args = at-is-finite .before .before in
-    has-six (at-args .args .settings) (at-args .args .region .now) (at-args .pre) (at-is-finite .is-finite .ensures) (c .before .form-refusal .ensures) (omega arith)
 
 returns-2 : tie.Need-returns-2
 returns-2 c = let at-decodes = c .before .before in
@@ -30,4 +25,4 @@ returns-3 c = let at-decodes = c .before .before in
     admit-then (at-args .args .settings) _ (at-args .pre) (at-is-finite .is-finite .ensures) (at-form-refusal .form-refusal .ensures) (omega arith) (at-decodes .before .state-of .ensures) (at-decodes .decodes .ensures) _ (c .before .time-refusal .ensures) (omega arith)
 
 pub admit-spec : {M : Type 1} → statement M
-admit-spec = tie.close (tie.spec (λ c κs. search needs) (λ c κs. search needs) returns state-of-requires (λ c κs. search needs) (λ c κs. search needs) returns-2 returns-3)
+admit-spec = tie.close (tie.spec (λ c κs. search needs) (λ c κs. search needs) returns (λ c κs. search needs) (λ c κs. search needs) (λ c κs. search needs) returns-2 returns-3)

@@ -1,6 +1,6 @@
 -- `decode` opens a region by the number of decoding. Assumes nothing.
 use native.Mathlib.Omega.{arith}
-use Rattle.moving_average.proofs.Decoding.{decode-form, decode-then, decode-else, has-six}
+use Rattle.moving_average.proofs.Decoding.{decode-form, decode-then, decode-else}
 use borrow.Author.Needs.{needs}
 use Rattle.moving_average.proofs.decode.Statement.{statement}
 use Rattle.moving_average.proofs.decode.Tie as tie
@@ -9,11 +9,6 @@ returns : tie.Need-returns
 returns c = let at-is-finite = c .before .before .before in
     let at-args = at-is-finite .before .before .before in
     decode-form (at-args .args .settings) _ (at-is-finite .before .geometry .ensures) (at-is-finite .is-finite .ensures) (c .before .form-refusal .ensures) (λ z. omega arith)
-
-state-of-requires : tie.Need-state-of-requires
-state-of-requires c κs = let at-is-finite = c .before .before .before in
-    let at-args = at-is-finite .before .before .before in
-    has-six (at-args .args .settings) (at-args .args .region .now) (at-is-finite .before .geometry .ensures) (at-is-finite .is-finite .ensures) (c .before .form-refusal .ensures) (omega arith)
 
 returns-2 : tie.Need-returns-2
 returns-2 c = let at-state-of = c .before .before in
@@ -30,4 +25,4 @@ returns-3 c = let at-state-of = c .before .before in
     decode-else (at-args .args .settings) _ (at-is-finite .before .geometry .ensures) (at-is-finite .is-finite .ensures) (at-form-refusal .form-refusal .ensures) (omega arith) (at-state-of .state-of .ensures) (c .before .decodes .ensures) (c .if2 .left)
 
 pub decode-spec : {M : Type 1} → statement M
-decode-spec = tie.close (tie.spec (λ c κs. search needs) (λ c κs. search needs) (λ c κs. search needs) returns state-of-requires (λ c κs. search needs) returns-2 returns-3)
+decode-spec = tie.close (tie.spec (λ c κs. search needs) (λ c κs. search needs) (λ c κs. search needs) returns (λ c κs. search needs) (λ c κs. search needs) returns-2 returns-3)

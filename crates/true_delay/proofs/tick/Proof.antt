@@ -15,10 +15,12 @@ returns c =
 
 returns-2 : tie.Need-returns-2
 returns-2 c =
-    let a = c .before .before .before .before .before .before .before .before .before in
-    let s = c .before .before .before .before .before in
-    tick-then timer (a .before .before .before .args .settings) _ _ _ (a .admit .ensures) (s .before .before .met .given .1) (s .step .ensures) (c .before .before .before .write .ensures)
-    (c .boolean-answer .ensures ∙ ap (λ s. emitted (outputs s)) (s .step .ensures))
+    let f = c .before .before in
+    let s = f .before in
+    let m = s .before .before .before in
+    let a = m .before .before in
+    tick-then timer (a .before .before .before .args .settings) _ _ _ (a .admit .ensures) (m .met .given .1) (s .step .ensures) (f .finish .ensures .leaves)
+    (f .finish .ensures .answers ∙ ap (λ s. emitted (outputs s)) (s .step .ensures))
 
 pub tick-spec : {M : Type 1} → statement M
-tick-spec = tie.close (tie.spec (λ c κs. search needs) (λ c. search needs) (λ c. search needs) (λ c κs. search needs) (λ c κs. search needs) (λ c. search needs) returns (λ c κs. search needs) (λ c κs. search needs) (λ c κs. search needs) (λ c. search needs) returns-2)
+tick-spec = tie.close (tie.spec (λ c κs. search needs) (λ c. search needs) (λ c. search needs) (λ c κs. search needs) (λ c κs. search needs) (λ c. search needs) returns (λ c κs. search needs) (λ c κs. search needs) (λ c. search needs) returns-2)

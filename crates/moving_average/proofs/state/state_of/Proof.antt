@@ -6,9 +6,9 @@ use Rattle.moving_average.proofs.state.state_of.Tie as tie
 
 returns : tie.Need-returns
 unfolding stateOf
-returns c = let at-previous-of = c .before .before .before .before in
-    let at-real-of-2 = at-previous-of .before .before in
-    rw (c .flag-of .ensures, at-previous-of .previous-of .ensures, at-real-of-2 .real-of2 .ensures, at-real-of-2 .before .before .real-of .ensures)
+returns c =
+    let at-previous-at = c .before .before .before in
+    simp (c .flag-at .ensures, c .before .word-at2 .ensures, c .before .before .word-at .ensures, at-previous-at .previous-at .ensures, at-previous-at .before .real-at2 .ensures, at-previous-at .before .before .real-at .ensures)
 
 pub state-of-spec : {M : Type 1} → statement M
-state-of-spec = tie.close (tie.spec (λ c. search needs) (λ c κs. search needs) (λ c. search needs) (λ c κs. search needs) (λ c. search needs) (λ c κs. search needs) (λ c. search needs) (λ c. search needs) (λ c. search needs) (λ c κs. search needs) returns)
+state-of-spec = tie.close (tie.spec (λ c κs. search needs) (λ c κs. search needs) (λ c κs. search needs) (λ c κs. search needs) (λ c κs. search needs) (λ c κs. search needs) returns)

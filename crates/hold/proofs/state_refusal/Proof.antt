@@ -1,0 +1,13 @@
+-- `state_refusal` makes tests 6 and 7 on the state that the words mean. Assumes nothing.
+use mathlib.Core.Bool.{true}
+use borrow.Author.Needs.{needs}
+use Rattle.dynamics.proofs.Steps.{state-tested}
+use Rattle.hold.proofs.Decoding.{bares}
+use Rattle.hold.proofs.state_refusal.Statement.{statement}
+use Rattle.hold.proofs.state_refusal.Tie as tie
+
+returns : tie.Need-returns
+returns c = state-tested bares true _ _ (c .before .before .state-of .ensures) (c .before .previous-sound .ensures) (c .state-refusal .ensures)
+
+pub state-refusal-spec : {M : Type 1} → statement M
+state-refusal-spec = tie.close (tie.spec (λ c κs. search needs) (λ c κs. search needs) (λ c κs. search needs) returns)

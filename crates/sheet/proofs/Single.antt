@@ -1,0 +1,280 @@
+-- A sheet equals its blocks run singly. Assumes nothing.
+use Prim.Native.Nat.{ℕ, zero, suc, _+_, _*_, _<_}
+use native.Mathlib.Nat.{not-suc-le-zero, le-of-suc-le-suc}
+use native.Mathlib.Omega.{arith}
+use mathlib.Core.Path.{_≡_, refl, sym, _∙_, ap}
+use mathlib.Core.Bool.{Bool, true, false, not, _&&_, and-true, true≢false}
+use mathlib.Core.Logic.{_⊎_, ⊎-elim}
+use mathlib.Core.List.{List, [], _∷_, _++_}
+use borrow.Author.Tests.{eqb-true, eq-eqb}
+use lib.Dec.{eqb}
+use lib.ListN.{length, take, drop, length-drop}
+use lib.Seq.{take-at, drop-at, take-all, length-take-le, drop-drop}
+use lib.Ieee.{Float}
+use lib.Ieee.Scale.{finite}
+use Rattle.dynamics.specs.Previous.{runsBack}
+use Rattle.dynamics.specs.Answer.{refusalOf, formRefusal}
+use Rattle.dynamics.specs.Machine.{Machine, sized, startRefusal, tickRefusal, stateRefusal}
+use Rattle.dynamics.proofs.Accepted.{accepted, all-passed}
+use Rattle.dynamics.proofs.Calls.{tick-2, form-right}
+use Rattle.blocks.specs.Block.{machineOf, ticked}
+use Rattle.blocks.specs.declared.block.Tick.{Tick}
+use Rattle.blocks.proofs.Lengths.{started-length, updated-length}
+use Rattle.sheet.specs.Rows.{wide, widthOf, Placed, placed, every, firstFailing, joined}
+use Rattle.sheet.specs.Sheet.{fewRows, inReach, settled, decodes, onTime, startNumber, tickNumber, rowAtFault, startsOn, rowTick, answersOf, leftOf, SheetStarted, SheetTicked}
+use Rattle.sheet.specs.Single.{At, nowHas, StartsSingly, TicksSingly, ownNumber, Topmost}
+use Rattle.sheet.specs.declared.row.Row.{Row}
+use Rattle.sheet.specs.declared.row.SheetAnswer.{SheetAnswer}
+use Rattle.sheet.proofs.Stretches.{both, either}
+use Rattle.sheet.proofs.Admission.{accepts, all-accept}
+
+-- ---- what stands at a place
+every-at : {A : Type 0} (q : A → Bool) (n : ℕ) (x : A) (xs : List A) → At n x xs → every q xs ≡ true → q x ≡ true
+unfolding every At
+every-at q zero x [] a e = absurd a
+every-at q (suc n) x [] a e = absurd a
+every-at q zero x (y ∷ ys) a e = ap q a ∙ both (q y) (every q ys) e .0
+every-at q (suc n) x (y ∷ ys) a e = every-at q n x ys a (both (q y) (every q ys) e .1)
+
+-- each two words of its own
+two-at : {A : Type 0} (f : A → List ℕ) → ((x : A) → length (f x) ≡ 2) → (n : ℕ) (x : A) (xs : List A) → At n x xs → take 2 (drop (2 * n) (joined f xs)) ≡ f x
+unfolding joined At
+two-at f two zero x [] a = absurd a
+two-at f two (suc n) x [] a = absurd a
+two-at f two zero x (y ∷ ys) a = take-at (f y) (joined f ys) 2 (two y) ∙ sym (ap f a)
+two-at f two (suc n) x (y ∷ ys) a =
+    let e : 2 * suc n ≡ 2 + 2 * n = omega arith in
+    rw (e, ← drop-drop (2 * n) 2 (f y ++ joined f ys), drop-at (f y) (joined f ys) 2 (two y)) (two-at f two n x ys a)
+
+-- work that keeps each stretch's length leaves each row its own
+module _ (f : Placed → List ℕ) (keeps : (p : Placed) → length (f p) ≡ length (p .words)) where
+  module _ (r : Row) (rs : List Row) (ws : List ℕ) (all : wide r + widthOf rs ≡ length ws) where
+    abbrev own : Placed
+    own = record { row = r; words = take (wide r) ws }
+
+    kept : length (f own) ≡ wide r
+    kept = keeps own ∙ length-take-le (wide r) ws (omega (arith, all))
+
+    rest : widthOf rs ≡ length (drop (wide r) ws)
+    rest = omega (arith, all, length-drop (wide r) ws)
+
+  work-at : (rs : List Row) (ws : List ℕ) → widthOf rs ≡ length ws → (n : ℕ) (p : Placed) → At n p (placed rs ws) → At n (nowHas p (f p)) (placed rs (joined f (placed rs ws)))
+  unfolding widthOf placed joined At
+  work-at [] ws all zero p a = absurd a
+  work-at [] ws all (suc n) p a = absurd a
+  work-at (r ∷ rs) ws all zero p a = rw a (rw (take-at (f (own r rs ws all)) (joined f (placed rs (drop (wide r) ws))) (wide r) (kept r rs ws all)) refl)
+  work-at (r ∷ rs) ws all (suc n) p a =
+      rw (drop-at (f (own r rs ws all)) (joined f (placed rs (drop (wide r) ws))) (wide r) (kept r rs ws all)) (work-at rs (drop (wide r) ws) (rest r rs ws all) n p a)
+
+-- ---- an accepted tick
+module _ (k : Tick) (rs : List Row) (ws os : List ℕ) where
+  abbrev time : Float
+  time = k .time
+
+  abbrev ps : List Placed
+  ps = placed rs ws
+
+  -- the tests that it passed
+  pub record Passed : Type 0 where
+    pub settles : every settled rs ≡ true
+    pub width : widthOf rs ≡ length ws
+    pub timely : finite time ≡ true
+    pub decoded : every decodes ps ≡ true
+    pub ordered : every (onTime time) ps ≡ true
+
+  passed : tickNumber time rs ws os ≡ 0 → Passed
+  unfolding tickNumber
+  passed z =
+      let (_, s, l, _, t, d, o) = all-passed (fewRows (length rs) && every inReach rs) (every settled rs) (eqb (length ws) (widthOf rs)) (eqb (length os) (2 * length rs)) (finite time) (every decodes ps) (every (onTime time) ps) z in
+      record { settles = s; width = sym (eqb-true (length ws) (widthOf rs) l); timely = t; decoded = d; ordered = o }
+
+  -- every row's own calls are accepted
+  pub tick-accepts : tickNumber time rs ws os ≡ 0 → (n : ℕ) (p : Placed) → At n p ps → tickRefusal (machineOf (p .row .block)) time (p .words) ≡ 0
+  tick-accepts z n p a =
+      let d = passed z in
+      eqb-true _ _ (every-at (accepts time) n p ps a (all-accept time rs ws (d .width) (d .settles) (d .timely) (d .decoded) (d .ordered)))
+
+  -- every row's answer words and stretch are those of its block's own calls
+  pub tick-singly : (r : SheetAnswer) (left out : List ℕ) → SheetTicked k rs ws os r left out → tickNumber time rs ws os ≡ 0 → (n : ℕ) (p : Placed) → At n p ps → TicksSingly k rs p n left out
+  unfolding ticked rowTick
+  tick-singly r left out said z n p a = record {
+    accepts = tick-accepts z n p a;
+    answers = ap (λ (l : List ℕ). take 2 (drop (2 * n) l)) (said .answers ∙ sym (accepted _ _ _ (sym z))) ∙ two-at (answersOf k) (λ q. refl) n p ps a;
+    leaves = rw (said .region, ← accepted (joined (leftOf k) ps) ws (tickNumber time rs ws os) (sym z))
+        (work-at (leftOf k) (λ q. updated-length (q .row .block) time _ (q .words)) rs ws (passed z .width) n p a);
+  }
+
+-- ---- an accepted start
+-- the row's block accepts a start on its own stretch
+abbrev begins : Placed → Bool
+begins p = eqb (startRefusal (machineOf (p .row .block)) (p .words)) 0
+
+all-begin : (rs : List Row) (ws : List ℕ) → widthOf rs ≡ length ws → every settled rs ≡ true → every begins (placed rs ws) ≡ true
+unfolding every widthOf placed startRefusal formRefusal refusalOf
+all-begin [] ws all s = refl
+all-begin (r ∷ rs) ws all s =
+    let (s₁, s₂) = both (settled r) _ s in
+    let l : length (take (wide r) ws) ≡ wide r = length-take-le (wide r) ws (omega (arith, all)) in
+    rw (s₁, eq-eqb (length (take (wide r) ws)) (wide r) l) (all-begin rs (drop (wide r) ws) (omega (arith, all, length-drop (wide r) ws)) s₂)
+
+module _ (rs : List Row) (ws : List ℕ) (z : startNumber rs ws ≡ 0) where
+  start-passed : (every settled rs ≡ true) × (widthOf rs ≡ length ws)
+  unfolding startNumber
+  start-passed = let (_, s, l, _, _, _, _) = all-passed (fewRows (length rs) && every inReach rs) (every settled rs) (eqb (length ws) (widthOf rs)) true true true true z in (s, sym (eqb-true (length ws) (widthOf rs) l))
+
+  pub start-accepts : (n : ℕ) (p : Placed) → At n p (placed rs ws) → startRefusal (machineOf (p .row .block)) (p .words) ≡ 0
+  start-accepts n p a = eqb-true _ _ (every-at begins n p (placed rs ws) a (all-begin rs ws (start-passed .1) (start-passed .0)))
+
+  pub start-singly : (r : SheetAnswer) (left : List ℕ) → SheetStarted rs ws r left → (n : ℕ) (p : Placed) → At n p (placed rs ws) → StartsSingly rs p n left
+  start-singly r left said n p a = record {
+    accepts = start-accepts n p a;
+    leaves = rw (said .region, ← accepted (joined startsOn (placed rs ws)) ws (startNumber rs ws) (sym z)) (work-at startsOn (λ q. started-length (q .row .block) (q .words)) rs ws (start-passed .1) n p a);
+  }
+
+-- ---- the row at fault
+-- the first that fails a test, and those before it
+module _ {A : Type 0} (q : A → Bool) where
+  pub record Fails (n : ℕ) (xs : List A) : Type 0 where
+    pub one : A
+    pub there : At n one xs
+    pub fails : q one ≡ false
+    pub before : (i : ℕ) (x : A) → At i x xs → i < n → q x ≡ true
+
+  head-fails : (x : A) (xs : List A) → q x ≡ false → Fails zero (x ∷ xs)
+  unfolding At
+  head-fails x xs f = record { one = x; there = refl; fails = f; before = λ i y a h. absurd (not-suc-le-zero h) }
+
+  tail-fails : (x : A) (xs : List A) (n : ℕ) → q x ≡ true → Fails n xs → Fails (suc n) (x ∷ xs)
+  unfolding At
+  tail-fails x xs n t more = record { one = more .one; there = more .there; fails = more .fails; before = earlier }
+    where
+      earlier : (i : ℕ) (y : A) → At i y (x ∷ xs) → i < suc n → q y ≡ true
+      earlier zero y a h = ap q a ∙ t
+      earlier (suc i) y a h = more .before i y a (le-of-suc-le-suc h)
+
+  first-fails : (xs : List A) → every q xs ≡ false → Fails (firstFailing q xs) xs
+  unfolding every firstFailing
+  first-fails [] e = absurd (true≢false e)
+  first-fails (x ∷ xs) e = ⊎-elim (λ t. rw t (tail-fails x xs (firstFailing q xs) t (first-fails xs (rw t at e)))) (λ f. rw f (head-fails x xs f)) (either (q x))
+
+-- what a refusal number tells of the tests before it
+abbrev Tells : ℕ → (settings length time state order : Bool) → Type 0
+Tells zero s l t d o = Unit {0}
+Tells (suc zero) s l t d o = Unit {0}
+Tells (suc (suc zero)) s l t d o = s ≡ false
+Tells (suc (suc (suc zero))) s l t d o = Unit {0}
+Tells (suc (suc (suc (suc zero)))) s l t d o = Unit {0}
+Tells (suc (suc (suc (suc (suc zero))))) s l t d o = Unit {0}
+Tells (suc (suc (suc (suc (suc (suc zero)))))) s l t d o = (s ≡ true) × (l ≡ true) × (t ≡ true) × (d ≡ false)
+Tells (suc (suc (suc (suc (suc (suc (suc zero))))))) s l t d o = (s ≡ true) × (l ≡ true) × (t ≡ true) × (d ≡ true) × (o ≡ false)
+Tells (suc (suc (suc (suc (suc (suc (suc (suc n)))))))) s l t d o = Unit {0}
+
+tells : (shape settings length space time state order : Bool) → Tells (refusalOf shape settings length space time state order) settings length time state order
+unfolding refusalOf
+tells false s l a t d o = tt
+tells true false l a t d o = refl
+tells true true false a t d o = tt
+tells true true true false t d o = tt
+tells true true true true false d o = tt
+tells true true true true true false o = (refl, refl, refl, refl)
+tells true true true true true true false = (refl, refl, refl, refl, refl)
+tells true true true true true true true = tt
+
+module _ (time : Float) (rs : List Row) (ws os : List ℕ) where
+  told : (m : ℕ) → tickNumber time rs ws os ≡ m → Tells m (every settled rs) (eqb (length ws) (widthOf rs)) (finite time) (every decodes (placed rs ws)) (every (onTime time) (placed rs ws))
+  unfolding tickNumber
+  told m e = rw e at (tells (fewRows (length rs) && every inReach rs) (every settled rs) (eqb (length ws) (widthOf rs)) (eqb (length os) (2 * length rs)) (finite time) (every decodes (placed rs ws)) (every (onTime time) (placed rs ws)))
+
+-- a test of rows, seen on the rows with their stretches
+module _ (q : Row → Bool) where
+  every-placed : (rs : List Row) (ws : List ℕ) → every (λ p. q (p .row)) (placed rs ws) ≡ every q rs
+  unfolding every placed
+  every-placed [] ws = refl
+  every-placed (r ∷ rs) ws = rw (every-placed rs (drop (wide r) ws)) refl
+
+  first-placed : (rs : List Row) (ws : List ℕ) → firstFailing (λ p. q (p .row)) (placed rs ws) ≡ firstFailing q rs
+  unfolding firstFailing placed
+  first-placed [] ws = refl
+  first-placed (r ∷ rs) ws = rw (first-placed rs (drop (wide r) ws)) refl
+
+-- a sheet's row at fault is the topmost whose own number it is, if the rows that fail a test are those whose number it is
+topmost : (time : Float) (number : ℕ) (q : Placed → Bool) (ps : List Placed) → every q ps ≡ false
+    → ((n : ℕ) (p : Placed) → At n p ps → q p ≡ false → ownNumber time p ≡ number) → ((n : ℕ) (p : Placed) → At n p ps → q p ≡ true → ownNumber time p ≡ number → ⊥)
+    → Topmost time number (firstFailing q ps) ps
+topmost time number q ps e yes-here not-there =
+    let f = first-fails q ps e in
+    record { row = f .one; there = f .there; own = yes-here _ (f .one) (f .there) (f .fails); above = λ i p a h. not-there i p a (f .before i p a h) }
+
+-- ---- a sheet's refusal 2, 6 or 7 at row n is row n's own, and no row above has it
+-- settings that are accepted are not refused with 2
+not-2 : (M : Machine) (time : Float) (w : List ℕ) → M .accepts ≡ true → tickRefusal M time w ≡ 2 → ⊥
+unfolding tickRefusal
+not-2 M time w s e = true≢false (sym s ∙ rw e at (tells true (M .accepts) (sized M w) true (finite time) (M .decodes w) (not (runsBack time (M .previous w)))))
+
+module _ (time : Float) (rs : List Row) (ws os : List ℕ) where
+  pub own-2 : tickNumber time rs ws os ≡ 2 → Topmost time 2 (rowAtFault 2 time rs ws) (placed rs ws)
+  unfolding rowAtFault
+  own-2 e = rw (← first-placed settled rs ws) (topmost time 2 (λ p. settled (p .row)) (placed rs ws) (every-placed settled rs ws ∙ told time rs ws os 2 e)
+      (λ n p a f. tick-2 (machineOf (p .row .block)) f time (p .words)) (λ n p a t. not-2 (machineOf (p .row .block)) time (p .words) t))
+
+  -- with the settings accepted, the lengths right and the time finite a row's own number is told by its words alone
+  module _ (settles : every settled rs ≡ true) (fits : eqb (length ws) (widthOf rs) ≡ true) (timely : finite time ≡ true) where
+    all-sized : (rs : List Row) (ws : List ℕ) → widthOf rs ≡ length ws → every (λ p. sized (machineOf (p .row .block)) (p .words)) (placed rs ws) ≡ true
+    unfolding every widthOf placed
+    all-sized [] ws all = refl
+    all-sized (r ∷ rs) ws all =
+        let l : length (take (wide r) ws) ≡ wide r = length-take-le (wide r) ws (omega (arith, all)) in
+        rw (eq-eqb (length (take (wide r) ws)) (wide r) l) (all-sized rs (drop (wide r) ws) (omega (arith, all, length-drop (wide r) ws)))
+
+    by-words : (n : ℕ) (p : Placed) → At n p (placed rs ws) → ownNumber time p ≡ stateRefusal (machineOf (p .row .block)) time (p .words)
+    by-words n p a = form-right (machineOf (p .row .block)) time (p .words)
+        (every-at (λ p. settled (p .row)) n p (placed rs ws) a (every-placed settled rs ws ∙ settles))
+        (every-at (λ p. sized (machineOf (p .row .block)) (p .words)) n p (placed rs ws) a (all-sized rs ws (sym (eqb-true (length ws) (widthOf rs) fits)))) timely
+
+  pub own-6 : tickNumber time rs ws os ≡ 6 → Topmost time 6 (rowAtFault 6 time rs ws) (placed rs ws)
+  unfolding rowAtFault stateRefusal refusalOf
+  own-6 e =
+      let (s, l, t, d) = told time rs ws os 6 e in
+      topmost time 6 decodes (placed rs ws) d (λ n p a f. by-words s l t n p a ∙ simp f) (λ n p a y z. six-not (onTime time p) (sym (by-words s l t n p a ∙ simp y) ∙ z))
+    where
+      six-not : (o : Bool) → refusalOf true true true true true true o ≡ 6 → ⊥
+      six-not true z = unfold refusalOf in omega (arith, z)
+      six-not false z = unfold refusalOf in omega (arith, z)
+
+  pub own-7 : tickNumber time rs ws os ≡ 7 → Topmost time 7 (rowAtFault 7 time rs ws) (placed rs ws)
+  unfolding rowAtFault stateRefusal refusalOf
+  own-7 e =
+      let (s, l, t, d, o) = told time rs ws os 7 e in
+      let well : (n : ℕ) (p : Placed) → At n p (placed rs ws) → decodes p ≡ true = λ n p a. every-at decodes n p (placed rs ws) a d in
+      topmost time 7 (onTime time) (placed rs ws) o (λ n p a f. by-words s l t n p a ∙ simp (well n p a, f)) (λ n p a y z. let none : stateRefusal (machineOf (p .row .block)) time (p .words) ≡ 0 = simp (well n p a, y) in omega (arith, by-words s l t n p a, none, z))
+
+-- ---- a sheet of one row has its block's number
+module _ (r : Row) (ws : List ℕ) (reach : inReach r ≡ true) where
+  only-part : eqb (length ws) (wide r) ≡ true → take (wide r) ws ≡ ws
+  only-part e = take-all (wide r) ws (omega (arith, eqb-true (length ws) (wide r) e))
+
+  pub one-row-start : startNumber (r ∷ []) ws ≡ startRefusal (machineOf (r .block)) ws
+  unfolding startNumber every widthOf startRefusal formRefusal
+  one-row-start = let z : wide r + 0 ≡ wide r = omega arith in rw (reach, and-true (settled r), z) refl
+
+  pub one-row : (time : Float) (os : List ℕ) → length os ≡ 2 → tickNumber time (r ∷ []) ws os ≡ tickRefusal (machineOf (r .block)) time ws
+  unfolding tickNumber every widthOf placed tickRefusal
+  one-row time os two =
+      let z : wide r + 0 ≡ wide r = omega arith in
+      let d : Bool = machineOf (r .block) .decodes (take (wide r) ws) in
+      let o : Bool = not (runsBack time (machineOf (r .block) .previous (take (wide r) ws))) in
+      rw (reach, and-true (settled r), and-true d, and-true o, z, eq-eqb (length os) 2 two) (⊎-elim (λ e. rw (only-part e) refl) (λ e. rw e (no-length (settled r) d o _ _)) (either (eqb (length ws) (wide r))))
+    where
+      no-length : (s d o d′ o′ : Bool) → refusalOf true s false true (finite time) d o ≡ refusalOf true s false true (finite time) d′ o′
+      no-length true d o d′ o′ = unfold refusalOf in refl
+      no-length false d o d′ o′ = unfold refusalOf in refl
+
+-- ---- a sheet of no rows is refused with 1
+module _ (ws : List ℕ) where
+  pub no-rows-start : startNumber [] ws ≡ 1
+  unfolding startNumber refusalOf
+  no-rows-start = refl
+
+  pub no-rows : (time : Float) (os : List ℕ) → tickNumber time [] ws os ≡ 1
+  unfolding tickNumber refusalOf
+  no-rows time os = refl

@@ -1,0 +1,49 @@
+use mathlib.Core.Path.{refl, sym, _∙_}
+use borrow.Author.Tests.{eq-eqb, ne-eqb, not-true, not-false}
+use Rattle.sheet.specs.Walk.{formed}
+use borrow.Author.Needs.{needs}
+use Rattle.sheet.proofs.walk.formed.Statement.{statement}
+use Rattle.sheet.proofs.walk.formed.Tie as tie
+
+returns : tie.Need-returns
+unfolding formed
+returns c = rw (c .refused .ensures, c .before .if1 .taken) refl
+
+returns-2 : tie.Need-returns-2
+unfolding formed
+returns-2 c = let a = c .before .before .before .before .before .before .args in rw (c .refused2 .ensures, c .before .before .before .if1 .left, ne-eqb (a .walk .at) (a .words) (c .before .if2 .taken)) refl
+
+returns-3 : tie.Need-returns-3
+unfolding formed
+returns-3 c = let a = c .before .before .before .before .before .before .before .before .args in rw (c .refused3 .ensures, c .before .before .before .before .before .if1 .left, eq-eqb (a .walk .at) (a .words) (c .before .before .before .if2 .left), sym (c .before .before .twice .ensures) ∙ not-true (c .before .before .twice .result) (c .before .if3 .taken)) refl
+
+returns-4 : tie.Need-returns-4
+unfolding formed
+returns-4 c = let a = c .before .before .before .before .before .before .before .before .before .before .args in rw (c .refused4 .ensures, c .before .before .before .before .before .before .before .if1 .left, eq-eqb (a .walk .at) (a .words) (c .before .before .before .before .before .if2 .left), sym (c .before .before .before .before .twice .ensures) ∙ not-false (c .before .before .before .before .twice .result) (c .before .before .before .if3 .left), sym (c .before .before .is-finite .ensures) ∙ not-true (c .before .before .is-finite .result) (c .before .if4 .taken)) refl
+
+returns-5 : tie.Need-returns-5
+unfolding formed
+returns-5 c = let a = c .before .before .before .before .before .before .before .before .before .before .before .before .args in rw (c .refused5 .ensures, c .before .before .before .before .before .before .before .before .before .if1 .left, eq-eqb (a .walk .at) (a .words) (c .before .before .before .before .before .before .before .if2 .left), sym (c .before .before .before .before .before .before .twice .ensures) ∙ not-false (c .before .before .before .before .before .before .twice .result) (c .before .before .before .before .before .if3 .left), sym (c .before .before .before .before .is-finite .ensures) ∙ not-false (c .before .before .before .before .is-finite .result) (c .before .before .before .if4 .left), ne-eqb (a .walk .refusal) 0 (c .before .if5 .taken)) refl
+
+returns-6 : tie.Need-returns-6
+unfolding formed
+returns-6 c = let a = c .before .before .before .before .before .before .before .before .before .before .before .before .args in rw (c .ready .ensures, c .before .before .before .before .before .before .before .before .before .if1 .left, eq-eqb (a .walk .at) (a .words) (c .before .before .before .before .before .before .before .if2 .left), sym (c .before .before .before .before .before .before .twice .ensures) ∙ not-false (c .before .before .before .before .before .before .twice .result) (c .before .before .before .before .before .if3 .left), sym (c .before .before .before .before .is-finite .ensures) ∙ not-false (c .before .before .before .before .is-finite .result) (c .before .before .before .if4 .left), eq-eqb (a .walk .refusal) 0 (c .before .if5 .left)) refl
+
+pub formed-spec : {M : Type 1} → statement M
+formed-spec =
+    tie.close
+    (tie.spec
+    (λ c κs. search needs)
+    returns
+    (λ c κs. search needs)
+    returns-2
+    (λ c κs. search needs)
+    (λ c κs. search needs)
+    returns-3
+    (λ c κs. search needs)
+    (λ c κs. search needs)
+    returns-4
+    (λ c κs. search needs)
+    returns-5
+    (λ c κs. search needs)
+    returns-6)

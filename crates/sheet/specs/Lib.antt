@@ -1,0 +1,5 @@
+pub mod Rows
+pub mod Sheet
+pub mod Walk
+pub mod Table
+pub mod Single

@@ -35,12 +35,14 @@ enum oven_type { OVEN_TYPE_P = 0, OVEN_TYPE_PI = 1, OVEN_TYPE_PD = 2, OVEN_TYPE_
 /* ---- Refusals. The first that applies is given: 13, then 14, then the others by their number. */
 enum oven_refusal {
     OVEN_ACCEPTED = 0,
+    OVEN_BAD_SHEET = 1,      /* of a sheet: no rows or more than 16, or a column above 7 */
     OVEN_BAD_SETTING = 2,    /* a real setting is a NaN or infinite */
-    OVEN_BAD_LENGTH = 3,     /* the region has another number of words than the block's state */
+    OVEN_BAD_LENGTH = 3,     /* the region has another number of words than the state, or a sheet's states together */
+    OVEN_BAD_SPACE = 4,      /* of a sheet: the answers are not two words for each row */
     OVEN_BAD_TIME = 5,       /* the time is a NaN or infinite */
     OVEN_BAD_STATE = 6,      /* a stored word is damaged: the previous time, or a ring's head or count */
     OVEN_TIME_RUNS_BACK = 7, /* the time is below the previous one; an equal time is accepted */
-    OVEN_NO_BLOCK = 13,      /* no block has this number, or this many settings, or this controller type */
+    OVEN_NO_BLOCK = 13,      /* no block has this number, this many settings or this type; rows are not 17 words each */
     OVEN_BAD_TICKS = 14      /* of a run: the ticks are not four words each, or the answers not as many words */
 };
 
@@ -78,6 +80,15 @@ enum oven_refusal {
 
 #define OVEN_TRUE_HOLD_WITH_RESET_DURATION 0
 #define OVEN_TRUE_HOLD_WITH_RESET_SETTINGS 1
+
+/* ---- The places in a row of a sheet, and its words: a controller's thirteen settings, or another block's one or two and
+ * then words that are not read. A column names one of a tick's eight input words, from 0 to 7. */
+#define OVEN_ROW_BLOCK 0
+#define OVEN_ROW_FIRST 1  /* the column of the first input */
+#define OVEN_ROW_SECOND 2 /* of the second; a block that lacks one does not read it, but a column it must be */
+#define OVEN_ROW_THIRD 3  /* of the third */
+#define OVEN_ROW_SETTINGS 4
+#define OVEN_ROW_WORDS 17
 
 /* ---- How many words a region has, as oven_length says too. */
 
@@ -156,6 +167,13 @@ struct oven_state {
     uint64_t words[6];
 };
 
+/* What a sheet answers: the row is the topmost at fault for 2, 6 and 7, counted from 0, and else 0. */
+struct oven_sheet_answer {
+    uint64_t refusal;
+    uint64_t row;
+    uint64_t warning; /* 1 if any row warned, else 0 */
+};
+
 /* ---- The calls. `block` is one of enum oven_block; `settings` are its settings, in the order above. */
 
 /* How many words the region of these settings has. */
@@ -193,6 +211,16 @@ uint64_t oven_sound(uint64_t block, const uint64_t *settings, size_t settings_le
 /* The region taken apart into its state. The points of a moving average stay in the region. */
 struct oven_state oven_decode(uint64_t block, const uint64_t *settings, size_t settings_len,
                               const uint64_t *region, size_t region_len);
+
+/* ---- A sheet: up to 16 rows over one region. The rows' states lie end to end in it, in the order of the rows. */
+
+/* Writes the words of a fresh start to each row's stretch of the region. */
+struct oven_sheet_answer oven_sheet_start(const uint64_t *rows, size_t rows_len, uint64_t *region, size_t region_len);
+
+/* A tick of all rows with these eight input words: all emit, then all update. Row n, from 0, answers in words 2n and 2n + 1:
+ * its real or boolean output, then its second output (of OVEN_TIMER_ACCUMULATING) or 0. */
+struct oven_sheet_answer oven_sheet_tick(const uint64_t *rows, size_t rows_len, uint64_t time, const uint64_t *words,
+                                         uint64_t *region, size_t region_len, uint64_t *answers, size_t answers_len);
 
 /* ---- Reals and their words. */
 

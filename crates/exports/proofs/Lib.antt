@@ -1,3 +1,6 @@
 pub mod Answers
 pub mod Zeros
+pub mod Naming
+pub mod Tabling
+pub mod Crossing
 pub mod OneResult

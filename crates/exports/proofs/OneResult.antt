@@ -1,4 +1,4 @@
--- Each call's contract admits one result only, one region, and of a run one list of answers. Assumes nothing.
+-- Each call's contract admits one result only, one region, and of a run and a sheet's tick one list of answers. Assumes nothing.
 use mathlib.Core.Path.{sym, _∙_}
 use denote.Ref.{now}
 use Rattle.dynamics.proofs.Calls.{one-result}
@@ -11,6 +11,8 @@ use Rattle.exports.proofs.calls.oven_emit.Reads as emit
 use Rattle.exports.proofs.calls.oven_update.Reads as update
 use Rattle.exports.proofs.calls.oven_tick.Reads as tick
 use Rattle.exports.proofs.calls.oven_run.Reads as run
+use Rattle.exports.proofs.sheets.oven_sheet_start.Reads as sheet-start
+use Rattle.exports.proofs.sheets.oven_sheet_tick.Reads as sheet-tick
 
 pub length-once : Once length.Post
 length-once κs a x y s t p q = p ∙ sym q
@@ -38,3 +40,12 @@ run-once κs a x y s t p q = (p .number ∙ sym (q .number), p .leaves ∙ sym (
 
 pub run-once-said : OnceLeft run.Post (λ κs s. now (s .1 .1 .1 .1 .0))
 run-once-said κs a x y s t p q = (p .number ∙ sym (q .number), p .says ∙ sym (q .says))
+
+pub sheet-start-once : OnceLeft sheet-start.Post (λ κs s. now (s .1 .0))
+sheet-start-once κs a x y s t p q = (p .answer ∙ sym (q .answer), p .leaves ∙ sym (q .leaves))
+
+pub sheet-tick-once : OnceLeft sheet-tick.Post (λ κs s. now (s .1 .1 .1 .0))
+sheet-tick-once κs a x y s t p q = (p .answer ∙ sym (q .answer), p .leaves ∙ sym (q .leaves))
+
+pub sheet-tick-once-said : OnceLeft sheet-tick.Post (λ κs s. now (s .1 .1 .1 .1 .0))
+sheet-tick-once-said κs a x y s t p q = (p .answer ∙ sym (q .answer), p .says ∙ sym (q .says))

@@ -2,4 +2,5 @@
 pub mod boundary;
 pub mod calls;
 pub mod leaves;
+pub mod sheets;
 pub mod states;

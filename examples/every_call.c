@@ -1,6 +1,6 @@
 /*
- * Every call of the boundary from C, on a delay of two seconds that is started at time 0 with a true input. Prints
- * examples/every_call.expected.
+ * Every call of the boundary from C: on a delay of two seconds that is started at time 0 with a true input, and on a sheet
+ * of such a delay and a soak clock. Prints examples/every_call.expected.
  */
 #include "oven.h"
 
@@ -22,6 +22,45 @@ static void show(const char *call, const uint64_t *words, size_t count) {
 static void show_answer(const char *call, struct oven_answer a) {
     const uint64_t words[] = {a.refusal, a.real, a.boolean, a.warning};
     show(call, words, 4);
+}
+
+static void show_sheet(const char *call, struct oven_sheet_answer a) {
+    const uint64_t words[] = {a.refusal, a.row, a.warning};
+    show(call, words, 3);
+}
+
+/* A sheet of two rows: both read column 0, and column 7 resets the clock. */
+static void sheet(void) {
+    enum { DELAY = 0, CLOCK = OVEN_ROW_WORDS, LEN = 2 * OVEN_ROW_WORDS };
+    uint64_t rows[LEN] = {
+        [DELAY + OVEN_ROW_BLOCK] = OVEN_TRUE_DELAY,
+        [DELAY + OVEN_ROW_SETTINGS + OVEN_TRUE_DELAY_DELAY_TIME] = oven_word(2.0),
+        [DELAY + OVEN_ROW_SETTINGS + OVEN_TRUE_DELAY_DELAY_ON_INIT] = 1,
+        [CLOCK + OVEN_ROW_BLOCK] = OVEN_TIMER_ACCUMULATING,
+        [CLOCK + OVEN_ROW_SECOND] = 7,
+        [CLOCK + OVEN_ROW_SETTINGS + OVEN_TIMER_ACCUMULATING_T] = oven_word(2.0),
+    };
+    uint64_t region[OVEN_TRUE_DELAY_LENGTH + OVEN_TIMER_ACCUMULATING_LENGTH], answers[4];
+    const uint64_t words[8] = {1};
+
+    show_sheet("sheet", oven_sheet_start(rows, LEN, region, 9));
+    for (double time = 0.0; time < 3.0; time += 1.0) {
+        show_sheet("tick", oven_sheet_tick(rows, LEN, oven_word(time), words, region, 9, answers, 4));
+        show("", answers, 4);
+    }
+    show_sheet("refused", oven_sheet_tick(rows, LEN, oven_word(1.0), words, region, 9, answers, 4));
+    region[1] = oven_word(1.0); /* the delay's previous time: now the clock's alone is ahead */
+    show_sheet("", oven_sheet_tick(rows, LEN, oven_word(1.0), words, region, 9, answers, 4));
+    region[5] = OVEN_UNSET - 1; /* the clock's is no time */
+    show_sheet("", oven_sheet_tick(rows, LEN, oven_word(1.0), words, region, 9, answers, 4));
+    show_sheet("", oven_sheet_tick(rows, LEN, oven_word(3.0), words, region, 9, answers, 3));
+    show_sheet("", oven_sheet_start(rows, LEN, region, 8));
+    rows[CLOCK + OVEN_ROW_SETTINGS + OVEN_TIMER_ACCUMULATING_T] = OVEN_UNSET; /* a NaN */
+    show_sheet("", oven_sheet_start(rows, LEN, region, 9));
+    rows[DELAY + OVEN_ROW_THIRD] = 8; /* no column, though a delay does not read it */
+    show_sheet("", oven_sheet_start(rows, LEN, region, 9));
+    rows[CLOCK + OVEN_ROW_BLOCK] = 7;
+    show_sheet("", oven_sheet_start(rows, LEN, region, 9));
 }
 
 int main(void) {
@@ -58,5 +97,6 @@ int main(void) {
         oven_run(block, settings, 2, ticks, 12, region, 4, answers, 8),
     };
     show("refused", refused, 4);
+    sheet();
     return 0;
 }

@@ -1,4 +1,6 @@
 //! What both sides of a speed comparison run: cases with settings, a region and ticks, all prepared; and the published side.
+pub mod sheet;
+
 use crate::Kind;
 use crate::inputs::bench_controller;
 use crate::oracle::{Oracle, values};

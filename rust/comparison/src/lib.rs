@@ -1,7 +1,7 @@
 //! The comparison: the Rust as published (`oracle`), a model of document 01 written apart from it
 //! (`model`), the inputs for both (`inputs`), and what is said of them call by call (`compare`, `differ`),
-//! over histories (`histories`), on stored calls (`stored`), on text (`soak`, `sessions`) and of
-//! their speed (`bench`).
+//! over histories (`histories`), on stored calls (`stored`), on text (`soak`, `sessions`), of bench
+//! sheets (`sheet`, `sheets`) and of their speed (`bench`).
 #![forbid(unsafe_code)]
 
 pub mod bench;
@@ -16,6 +16,8 @@ pub mod oracle;
 mod ring;
 pub mod ring_classes;
 pub mod sessions;
+pub mod sheet;
+pub mod sheets;
 pub mod soak;
 pub mod stored;
 pub mod tally;

@@ -1,5 +1,6 @@
 //! What a comparison met and found. One that did not meet what it should has failed.
 use std::collections::BTreeMap;
+use std::fmt::Debug;
 
 use crate::ring_classes::{self, RingClass};
 use crate::{Answer, Kind};
@@ -51,26 +52,63 @@ pub enum Class {
 use Class::*;
 
 /// How often each class occurred, and the differences found.
-#[derive(Default)]
-pub struct Tally {
-    seen: BTreeMap<Class, u64>,
+pub struct Tally<C = Class> {
+    seen: BTreeMap<C, u64>,
     pub differences: Vec<String>,
 }
 
-impl Tally {
-    pub fn see(&mut self, class: Class) {
+impl<C> Default for Tally<C> {
+    fn default() -> Tally<C> {
+        Tally {
+            seen: BTreeMap::new(),
+            differences: vec![],
+        }
+    }
+}
+
+impl<C: Copy + Debug + Ord> Tally<C> {
+    pub fn see(&mut self, class: C) {
         *self.seen.entry(class).or_default() += 1;
     }
 
-    pub fn see_all(&mut self, classes: &[Class]) {
+    pub fn see_all(&mut self, classes: &[C]) {
         classes.iter().for_each(|class| self.see(*class));
     }
 
     #[must_use]
-    pub fn count(&self, class: Class) -> u64 {
+    pub fn count(&self, class: C) -> u64 {
         self.seen.get(&class).copied().unwrap_or(0)
     }
 
+    /// Of these classes, those that did not occur.
+    #[must_use]
+    pub fn missing(&self, wanted: &[C]) -> Vec<C> {
+        let absent = |class: &&C| self.count(**class) == 0;
+        wanted.iter().filter(absent).copied().collect()
+    }
+
+    /// The counts in one line.
+    #[must_use]
+    pub fn counts(&self) -> String {
+        let seen = self.seen.iter();
+        let counts: Vec<String> = seen.map(|(c, n)| format!("{c:?} {n}")).collect();
+        counts.join(", ")
+    }
+
+    /// Prints the differences and the classes that are missing; says whether there are none.
+    pub fn report(&self, name: &str, wanted: &[C]) -> bool {
+        for difference in &self.differences {
+            println!("{name} DIFFERS: {difference}");
+        }
+        let missing = self.missing(wanted);
+        if !missing.is_empty() {
+            println!("{name} NEVER MET: {missing:?}");
+        }
+        self.differences.is_empty() && missing.is_empty()
+    }
+}
+
+impl Tally {
     /// Calls of emit and update, accepted or refused.
     #[must_use]
     pub fn calls(&self) -> u64 {
@@ -87,34 +125,10 @@ impl Tally {
         }
     }
 
-    /// Of these classes, those that did not occur.
-    #[must_use]
-    pub fn missing(&self, wanted: &[Class]) -> Vec<Class> {
-        let absent = |class: &&Class| self.count(**class) == 0;
-        wanted.iter().filter(absent).copied().collect()
-    }
-
     /// The counts in one line, the calls first.
     #[must_use]
     pub fn line(&self) -> String {
-        let counts: Vec<String> = self
-            .seen
-            .iter()
-            .map(|(c, n)| format!("{c:?} {n}"))
-            .collect();
-        format!("calls {}: {}", self.calls(), counts.join(", "))
-    }
-
-    /// Prints the differences and the classes that are missing; says whether there are none.
-    pub fn report(&self, name: &str, wanted: &[Class]) -> bool {
-        for difference in &self.differences {
-            println!("{name} DIFFERS: {difference}");
-        }
-        let missing = self.missing(wanted);
-        if !missing.is_empty() {
-            println!("{name} NEVER MET: {missing:?}");
-        }
-        self.differences.is_empty() && missing.is_empty()
+        format!("calls {}: {}", self.calls(), self.counts())
     }
 }
 

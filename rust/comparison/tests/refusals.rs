@@ -1,18 +1,11 @@
 //! Document 01's table of refusals, stated by planted faults: an accepted call with some of the
 //! five faults put in is refused with the least number among them, and with zeros, and writes
 //! nothing. The Rust refuses nothing, so this does not come from it.
-use comparison::inputs::{self, Rng};
+use comparison::inputs::{self, NOT_FINITE, Rng};
 use comparison::model::{self, leaves::UNSET};
 use comparison::{Answer, Kind};
 
 const NUMBERS: [u64; 5] = [2, 3, 5, 6, 7];
-const NOT_FINITE: [u64; 5] = [
-    0x7FF0_0000_0000_0000,
-    0xFFF0_0000_0000_0000,
-    0x7FF8_0000_0000_0000,
-    0xFFFF_FFFF_FFFF_FFFE,
-    0x7FF0_0000_0000_0001,
-];
 
 struct Call {
     kind: Kind,

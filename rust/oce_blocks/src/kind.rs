@@ -2,7 +2,7 @@
 //! Ours, from document 01 (the eighth block from request 3 of document 02).
 
 /// One of the blocks, numbered in the order of document 01's list, the pulse last.
-#[derive(Clone, Copy, Debug, PartialEq, Eq)]
+#[derive(Clone, Copy, Debug, PartialEq, Eq, PartialOrd, Ord)]
 pub enum Kind {
     Pid,
     PidWithReset,

@@ -27,6 +27,15 @@ pub struct StateWords {
     pub words: [u64; 6],
 }
 
+/// What a sheet answers.
+#[derive(Clone, Copy, Debug, PartialEq, Eq, Default)]
+#[repr(C)]
+pub struct SheetWords {
+    pub refusal: u64,
+    pub row: u64,
+    pub warning: u64,
+}
+
 #[rustfmt::skip]
 unsafe extern "C" {
     fn oven_length(block: u64, s: *const u64, ns: usize) -> LengthWords;
@@ -37,6 +46,8 @@ unsafe extern "C" {
     fn oven_sound(block: u64, s: *const u64, ns: usize, w: *const u64, nw: usize) -> u64;
     fn oven_decode(block: u64, s: *const u64, ns: usize, w: *const u64, nw: usize) -> StateWords;
     fn oven_run(block: u64, s: *const u64, ns: usize, ticks: *const u64, nt: usize, w: *mut u64, nw: usize, answers: *mut u64, na: usize) -> u64;
+    fn oven_sheet_start(rows: *const u64, nr: usize, w: *mut u64, nw: usize) -> SheetWords;
+    fn oven_sheet_tick(rows: *const u64, nr: usize, time: u64, words: *const u64, w: *mut u64, nw: usize, answers: *mut u64, na: usize) -> SheetWords;
 }
 
 /// A tick's time and its three inputs.
@@ -113,4 +124,26 @@ pub fn run(block: u64, s: &[u64], ticks: &[u64], w: &mut [u64], answers: &mut [u
     let (ps, ns, pt, nt) = (s.as_ptr(), s.len(), ticks.as_ptr(), ticks.len());
     let (pw, nw, pa, na) = (w.as_mut_ptr(), w.len(), answers.as_mut_ptr(), answers.len());
     unsafe { oven_run(block, ps, ns, pt, nt, pw, nw, pa, na) }
+}
+
+/// Writes the words of a fresh start to each row's stretch.
+#[inline]
+#[must_use]
+pub fn sheet_start(rows: &[u64], w: &mut [u64]) -> SheetWords {
+    unsafe { oven_sheet_start(rows.as_ptr(), rows.len(), w.as_mut_ptr(), w.len()) }
+}
+
+/// A tick of all rows with eight input words, and two words of answers for each row.
+#[inline]
+#[must_use]
+pub fn sheet_tick(
+    rows: &[u64],
+    time: u64,
+    words: &[u64; 8],
+    w: &mut [u64],
+    answers: &mut [u64],
+) -> SheetWords {
+    let (pr, nr, pi) = (rows.as_ptr(), rows.len(), words.as_ptr());
+    let (pw, nw, pa, na) = (w.as_mut_ptr(), w.len(), answers.as_mut_ptr(), answers.len());
+    unsafe { oven_sheet_tick(pr, nr, time, pi, pw, nw, pa, na) }
 }

@@ -1,19 +1,9 @@
 //! The proved blocks as the comparison calls them.
+use comparison::sheet::{SheetAnswer, SheetCalls};
 use comparison::{Answer, Calls, Decoded, Kind, model};
 
-use crate::boundary::{AnswerWords, Tick};
+use crate::boundary::{AnswerWords, SheetWords, Tick};
 use crate::guarded;
-
-/// The blocks that are proved: those of document 01, in its order, which gives them their numbers.
-pub const BLOCKS: [Kind; 7] = [
-    Kind::Pid,
-    Kind::PidWithReset,
-    Kind::MovingAverage,
-    Kind::TimerAccumulating,
-    Kind::TrueDelay,
-    Kind::TrueFalseHold,
-    Kind::TrueHoldWithReset,
-];
 
 /// The proved calls, to be compared with the Rust.
 pub const CALLS: Calls = Calls {
@@ -39,6 +29,12 @@ pub const CALLS: Calls = Calls {
             words: state.words,
         }
     },
+};
+
+/// The proved sheet, to be compared with the model and with the proved blocks.
+pub const SHEETS: SheetCalls = SheetCalls {
+    start: |rows, w| sheet_answer(guarded::sheet_start(rows, w)),
+    tick: |rows, tick, w, a| sheet_answer(guarded::sheet_tick(rows, tick.time, &tick.words, w, a)),
 };
 
 /// Start, tick and run are the proved ones, and the rest the model's: liboven.a has no more.
@@ -69,6 +65,14 @@ fn answer(words: AnswerWords) -> Answer {
         refusal: words.refusal,
         real: words.real,
         boolean: flag(words.boolean),
+        warning: flag(words.warning),
+    }
+}
+
+fn sheet_answer(words: SheetWords) -> SheetAnswer {
+    SheetAnswer {
+        refusal: words.refusal,
+        row: words.row,
         warning: flag(words.warning),
     }
 }

@@ -2,7 +2,7 @@
 use std::hint::black_box;
 use std::ops::Range;
 
-use crate::boundary::{self, AnswerWords, LengthWords, StateWords, Tick};
+use crate::boundary::{self, AnswerWords, LengthWords, SheetWords, StateWords, Tick};
 
 /// Words around what is lent.
 const GUARD: [u64; 8] = [0x5EED_0F60_4A4D_5EED; 8];
@@ -85,6 +85,33 @@ pub fn run(block: u64, s: &[u64], ticks: &[u64], w: &mut [u64], answers: &mut [u
         })
     };
     reading(s, |s| reading(ticks, |ticks| write(s, ticks)))
+}
+
+#[must_use]
+pub fn sheet_start(rows: &[u64], w: &mut [u64]) -> SheetWords {
+    reading(rows, |rows| writing(w, |w| boundary::sheet_start(rows, w)))
+}
+
+#[must_use]
+pub fn sheet_tick(
+    rows: &[u64],
+    time: u64,
+    words: &[u64; 8],
+    w: &mut [u64],
+    answers: &mut [u64],
+) -> SheetWords {
+    let mut write = |rows: &[u64], words: &[u64; 8]| {
+        writing(w, |w| {
+            writing(answers, |answers| {
+                boundary::sheet_tick(rows, time, words, w, answers)
+            })
+        })
+    };
+    reading(rows, |rows| {
+        reading(words, |words| {
+            write(rows, words.try_into().expect("eight words"))
+        })
+    })
 }
 
 #[cfg(test)]

@@ -5,6 +5,8 @@ mod calls;
 pub mod guarded;
 mod leaves;
 pub mod shown;
+pub mod shown_sheet;
 
-pub use calls::{BLOCKS, CALLS, OVEN_CALLS, run};
+pub use calls::{CALLS, OVEN_CALLS, SHEETS, run};
+pub use comparison::sheet::BLOCKS;
 pub use leaves::LEAVES;

@@ -2,8 +2,10 @@
 use std::collections::HashMap;
 
 use comparison::Kind;
-use comparison::inputs::bench_controller;
-use rattle::{BLOCKS, CALLS};
+use comparison::inputs::{Rng, bench_controller};
+use comparison::sheet::{ROW_WORDS, Row, SETTINGS};
+use comparison::sheets::{Fault, Sheet, plant};
+use rattle::{BLOCKS, CALLS, SHEETS};
 
 /// Each name that the header gives a number, by a define or in an enum.
 fn numbers() -> HashMap<String, u64> {
@@ -70,5 +72,42 @@ fn lengths() {
     for kind in BLOCKS.into_iter().skip(3) {
         let due = length(kind, &vec![0; kind.settings().len()]);
         assert_eq!(numbers[&format!("{}_LENGTH", name(kind))], due, "{kind:?}");
+    }
+}
+
+/// A row's words are a controller's, at the places that the header names.
+#[test]
+fn rows() {
+    let numbers = numbers();
+    let number = |name: &str| numbers[&format!("OVEN_ROW_{name}")] as usize;
+    assert_eq!((number("WORDS"), number("SETTINGS")), (ROW_WORDS, SETTINGS));
+    let settings = bench_controller(3, 1.0, 0.0);
+    let words = Row::new(Kind::PidWithReset, &settings, [5, 6, 7]).words(9);
+    let places = ["BLOCK", "FIRST", "SECOND", "THIRD"].map(|name| words[number(name)]);
+    assert_eq!(places, [1, 5, 6, 7]);
+    assert_eq!(words[number("SETTINGS")..], settings);
+    assert_eq!(words.len(), number("WORDS"));
+}
+
+/// What the header calls a refusal is what the sheet gives for its fault.
+#[test]
+fn refusals_of_a_sheet() {
+    let numbers = numbers();
+    for (name, number) in [
+        ("BAD_SHEET", 1),
+        ("BAD_SETTING", 2),
+        ("BAD_LENGTH", 3),
+        ("BAD_SPACE", 4),
+        ("BAD_TIME", 5),
+        ("BAD_STATE", 6),
+        ("TIME_RUNS_BACK", 7),
+        ("NO_BLOCK", 13),
+    ] {
+        assert_eq!(numbers[&format!("OVEN_{name}")], number);
+        let hold = Row::new(Kind::TrueFalseHold, &[0, 0], [0; 3]);
+        let mut call = Sheet::new(vec![hold]).tick(0, [0; 8]);
+        let fault = Fault { number, row: 0 };
+        plant(&mut Rng::new(1, number), &mut call, &[fault]);
+        assert_eq!(call.made(&SHEETS).answer.refusal, number, "{name}");
     }
 }

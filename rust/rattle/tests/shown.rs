@@ -1,7 +1,7 @@
-//! What docs/TIMERS.md, docs/CONTROLLER.md and docs/MOVING-AVERAGE.md show is what the proved blocks give.
+//! What docs/TIMERS.md, docs/CONTROLLER.md, docs/MOVING-AVERAGE.md and docs/SHEET.md show is what the proved library gives.
 use comparison::Kind;
 use rattle::shown::EXAMPLES;
-use rattle::{CALLS, bench_rows, run};
+use rattle::{CALLS, bench_rows, run, shown_sheet};
 
 fn page(name: &str) -> String {
     let folder = concat!(env!("CARGO_MANIFEST_DIR"), "/../../docs/");
@@ -20,6 +20,12 @@ fn the_timers_page_shows_the_runs() {
 fn the_controllers_page_shows_the_bench_rows() {
     let table = bench_rows::table();
     assert!(page("CONTROLLER.md").contains(&table), "{table}");
+}
+
+#[test]
+fn the_sheets_page_shows_the_run() {
+    let table = shown_sheet::table();
+    assert!(page("SHEET.md").contains(&table), "{table}");
 }
 
 /// Delta, and time and input of each tick: row P8 and one tick more, then ticks that come too close.

@@ -11,7 +11,7 @@ pub struct Slip {
     pub slipped: &'static str,
 }
 
-const fn slip(
+pub const fn slip(
     name: &'static str,
     block: &'static str,
     file: &'static str,

@@ -6,7 +6,7 @@ mod settings;
 mod ticks;
 pub mod wide;
 
-pub use reals::{any_bool, any_real, next_down, next_up, tame, wild};
+pub use reals::{NOT_FINITE, any_bool, any_real, next_down, next_up, tame, wild};
 pub use regions::region;
 pub use rng::Rng;
 pub use settings::{accepted_settings, bench_controller, settings};

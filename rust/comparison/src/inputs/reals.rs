@@ -78,6 +78,15 @@ pub fn wild(r: &mut Rng) -> f64 {
     if x.is_finite() { x } else { corner }
 }
 
+/// Words of reals that are not finite: both infinities, and NaNs of three patterns.
+pub const NOT_FINITE: [u64; 5] = [
+    0x7FF0_0000_0000_0000,
+    0xFFF0_0000_0000_0000,
+    0x7FF8_0000_0000_0000,
+    0xFFFF_FFFF_FFFF_FFFE,
+    0x7FF0_0000_0000_0001,
+];
+
 /// The float next above x, which is not infinite.
 #[must_use]
 pub fn next_up(x: f64) -> f64 {

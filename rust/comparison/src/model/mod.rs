@@ -4,7 +4,8 @@ mod average;
 pub mod controller;
 pub mod leaves;
 mod pulse;
-mod refusals;
+pub mod refusals;
+pub mod sheet;
 mod state;
 mod timers;
 

@@ -4,7 +4,8 @@ use super::leaves::{UNSET, is_finite, real_of};
 use crate::Kind;
 
 /// Number 2. For the pulse also a setting outside the limits of document 02, request 3.
-fn setting_fault(kind: Kind, s: &[u64]) -> bool {
+#[must_use]
+pub fn setting_fault(kind: Kind, s: &[u64]) -> bool {
     let mut reals = kind
         .settings()
         .bytes()
@@ -17,7 +18,8 @@ fn setting_fault(kind: Kind, s: &[u64]) -> bool {
         && !((0.01..=0.5).contains(&real_of(s[1])) && real_of(s[2]) >= 1.0)
 }
 
-fn length(kind: Kind, s: &[u64]) -> usize {
+#[must_use]
+pub fn length(kind: Kind, s: &[u64]) -> usize {
     let ring = if kind == Kind::MovingAverage {
         2 * Ring::of(s).capacity as usize
     } else {
@@ -27,7 +29,8 @@ fn length(kind: Kind, s: &[u64]) -> usize {
 }
 
 /// Number 6.
-fn region_fault(kind: Kind, s: &[u64], region: &[u64]) -> bool {
+#[must_use]
+pub fn region_fault(kind: Kind, s: &[u64], region: &[u64]) -> bool {
     let previous = kind.time_place(s).map_or(UNSET, |n| region[n]);
     if previous != UNSET && !is_finite(previous) {
         return true;
@@ -39,7 +42,8 @@ fn region_fault(kind: Kind, s: &[u64], region: &[u64]) -> bool {
 }
 
 /// Number 7.
-fn time_fault(kind: Kind, s: &[u64], region: &[u64], time: u64) -> bool {
+#[must_use]
+pub fn time_fault(kind: Kind, s: &[u64], region: &[u64], time: u64) -> bool {
     let previous = kind.time_place(s).map_or(UNSET, |n| region[n]);
     previous != UNSET && real_of(time) < real_of(previous)
 }

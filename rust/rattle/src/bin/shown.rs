@@ -1,7 +1,8 @@
-//! Prints the worked examples of docs/TIMERS.md and the rows of docs/CONTROLLER.md, from runs of the proved blocks.
+//! Prints the worked examples of docs/TIMERS.md, the rows of docs/CONTROLLER.md and those of docs/SHEET.md, from runs of the proved library.
 fn main() {
     for example in rattle::shown::EXAMPLES {
         println!("{}", example.text());
     }
     println!("{}", rattle::bench_rows::table());
+    println!("{}", rattle::shown_sheet::table());
 }

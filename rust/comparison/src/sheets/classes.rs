@@ -1,0 +1,129 @@
+//! What a comparison of sheets meets.
+use crate::Kind;
+use crate::sheet::{BLOCKS, NO_BLOCK, Row, rows_of};
+use crate::tally::met;
+
+use super::{Call, Fault, Left};
+
+/// A sort of call or answer.
+#[derive(Clone, Copy, Debug, PartialEq, Eq, PartialOrd, Ord)]
+pub enum SheetClass {
+    Started,
+    Ticked,
+    StartRefused(u64),
+    TickRefused(u64),
+    /// An accepted tick of so many rows.
+    Rows(usize),
+    /// A row with this block in an accepted tick.
+    Block(Kind),
+    /// Rows that read one column, in an accepted tick.
+    SharedColumn,
+    Warned,
+    /// A warning, though the last row has none to give.
+    WarnedAbove,
+    /// An answer that is the one NaN.
+    Nan,
+    /// A second output that is true.
+    Passed,
+    NoRows,
+    TooManyRows,
+    /// Columns above 7, but none that a block reads.
+    UnreadColumn,
+    /// A refusal of this number that names another row than the first.
+    Lower(u64),
+    /// A refusal of this number with several rows at fault for it.
+    Several(u64),
+    /// A refusal of this number, and above its row one with a fault of a greater number.
+    Before(u64),
+}
+
+use SheetClass::*;
+
+/// What a comparison of many sheets must meet.
+#[must_use]
+pub fn expected_classes() -> Vec<SheetClass> {
+    let mut wanted = vec![
+        Started,
+        Ticked,
+        SharedColumn,
+        Warned,
+        WarnedAbove,
+        Nan,
+        Passed,
+    ];
+    wanted.extend([NoRows, TooManyRows, UnreadColumn, Before(2), Before(6)]);
+    wanted.extend([1, 2, 3, NO_BLOCK].map(StartRefused));
+    wanted.extend([1, 2, 3, 4, 5, 6, 7, NO_BLOCK].map(TickRefused));
+    wanted.extend((1..=16).map(Rows));
+    wanted.extend(BLOCKS.map(Block));
+    wanted.extend([2, 6, 7].map(Lower));
+    wanted.extend([2, 6, 7].map(Several));
+    wanted
+}
+
+/// What a call with these faults meets, by what is due.
+pub(super) fn classes(call: &Call, faults: &[Fault], due: &Left) -> Vec<SheetClass> {
+    let rows = rows_of(&call.rows).unwrap_or_default();
+    let mut classes = match (due.answer.refusal, &call.tick) {
+        (0, None) => vec![Started],
+        (0, Some(_)) => accepted(&rows, due),
+        (n, None) => vec![StartRefused(n)],
+        (n, Some(_)) => vec![TickRefused(n)],
+    };
+    classes.extend(refused(&rows, faults, due));
+    classes
+}
+
+fn accepted(rows: &[Row], due: &Left) -> Vec<SheetClass> {
+    let read = |row: &Row| row.columns[..row.kind.inputs().len()].to_vec();
+    let columns: Vec<u64> = rows.iter().flat_map(read).collect();
+    let shared = (1..columns.len()).any(|n| columns[..n].contains(&columns[n]));
+    let last = rows.last().map(|row| row.kind);
+    let (firsts, seconds) = (
+        due.answers.iter().step_by(2),
+        due.answers.iter().skip(1).step_by(2),
+    );
+    let nan = firsts
+        .filter(|word| f64::from_bits(**word).is_nan())
+        .count()
+        > 0;
+    let mut classes = vec![Ticked, Rows(rows.len())];
+    classes.extend(rows.iter().map(|row| Block(row.kind)));
+    classes.extend(met([
+        (SharedColumn, shared),
+        (Warned, due.answer.warning),
+        (
+            WarnedAbove,
+            due.answer.warning && last != Some(Kind::MovingAverage),
+        ),
+        (Nan, nan),
+        (Passed, seconds.sum::<u64>() > 0),
+    ]));
+    classes
+}
+
+fn refused(rows: &[Row], faults: &[Fault], due: &Left) -> Vec<SheetClass> {
+    let (number, row) = (due.answer.refusal, due.answer.row as usize);
+    let read = |row: &Row| {
+        row.columns[..row.kind.inputs().len()]
+            .iter()
+            .any(|c| *c > 7)
+    };
+    let fits = (1..=16).contains(&rows.len());
+    let own = faults.iter().filter(|fault| fault.number == number);
+    let mut own: Vec<usize> = own.map(|fault| fault.row).collect();
+    own.sort_unstable();
+    own.dedup();
+    let above =
+        |fault: &Fault| [6, 7].contains(&fault.number) && fault.number > number && fault.row < row;
+    let of_rows = [2, 6, 7].contains(&number);
+    let classes = met([
+        (NoRows, number == 1 && rows.is_empty()),
+        (TooManyRows, number == 1 && rows.len() > 16),
+        (UnreadColumn, number == 1 && fits && !rows.iter().any(read)),
+        (Lower(number), of_rows && row > 0),
+        (Several(number), of_rows && own.len() > 1),
+        (Before(number), of_rows && faults.iter().any(above)),
+    ]);
+    classes.collect()
+}

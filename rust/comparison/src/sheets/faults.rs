@@ -1,0 +1,152 @@
+//! Faults planted in a call that was accepted: each stands for one refusal number.
+use crate::Kind;
+use crate::inputs::{NOT_FINITE, Rng, next_up};
+use crate::model;
+use crate::sheet::{NO_BLOCK, ROW_WORDS, SETTINGS, rows_of};
+
+use super::Call;
+
+/// A refusal number, and the row that its fault is put into; 3, 4 and 5 are of no row.
+#[derive(Clone, Copy, Debug, PartialEq, Eq)]
+pub struct Fault {
+    pub number: u64,
+    pub row: usize,
+}
+
+/// The order in which faults are put in: each still finds what it needs.
+const PLANTED: [u64; 8] = [7, 6, 2, 4, 5, 3, 1, NO_BLOCK];
+
+/// Puts the faults into a call, and hands back those that it has then. A P controller keeps no time, a start has neither
+/// time nor answers, and a second change of a length could undo the first.
+pub fn plant(r: &mut Rng, call: &mut Call, faults: &[Fault]) -> Vec<Fault> {
+    let mut planted = vec![];
+    for number in PLANTED {
+        let own = faults.iter().filter(|fault| fault.number == number);
+        let once = [3, 4, NO_BLOCK].contains(&number);
+        let own = own.take(if once { 1 } else { faults.len() });
+        planted.extend(own.filter(|fault| put(r, call, **fault)));
+    }
+    planted
+}
+
+/// The number and the row that are due for these faults: 13 first, then the least number, with its topmost row if it has one.
+#[must_use]
+pub fn due(faults: &[Fault]) -> (u64, usize) {
+    let rank = |fault: &&Fault| (fault.number != NO_BLOCK, fault.number, fault.row);
+    match faults.iter().min_by_key(rank) {
+        Some(&Fault { number, row }) if [2, 6, 7].contains(&number) => (number, row),
+        Some(fault) => (fault.number, 0),
+        None => (0, 0),
+    }
+}
+
+/// Puts in one fault; says whether it could.
+fn put(r: &mut Rng, call: &mut Call, fault: Fault) -> bool {
+    match (fault.number, &mut call.tick) {
+        (1, _) => spoil_form(r, &mut call.rows, fault.row),
+        (2, _) => spoil_setting(r, &mut call.rows[fault.row * ROW_WORDS..]),
+        (3, _) => change_length(r, &mut call.region),
+        (4, Some(_)) => change_length(r, &mut call.answers),
+        (5, Some(tick)) => tick.time = r.pick(&[&NOT_FINITE[..], &[u64::MAX]].concat()),
+        (6, tick) => {
+            let tested = tick.is_some(); // a start tests no words
+            return damage(r, call, fault.row) && tested;
+        }
+        (7, Some(_)) => return set_ahead(r, call, fault.row),
+        (NO_BLOCK, _) => name_no_block(r, &mut call.rows, fault.row),
+        _ => return false,
+    }
+    true
+}
+
+/// A column above 7 in one of the three places, or no rows, or more than 16.
+fn spoil_form(r: &mut Rng, rows: &mut Vec<u64>, row: usize) {
+    let place = row * ROW_WORDS + 1 + r.below(3) as usize;
+    match r.below(8) {
+        0 => rows.clear(),
+        1 => {
+            let count = r.pick(&[17, 17, 18, 33]);
+            *rows = rows
+                .iter()
+                .copied()
+                .cycle()
+                .take(count * ROW_WORDS)
+                .collect();
+        }
+        _ if place < rows.len() => rows[place] = r.pick(&[8, 9, 1 << 32, u64::MAX]),
+        _ => {}
+    }
+}
+
+/// A real setting that is not finite.
+fn spoil_setting(r: &mut Rng, row: &mut [u64]) {
+    let kind = Kind::ALL[row[0] as usize];
+    let reals: Vec<_> = kind.settings().match_indices('r').collect();
+    row[SETTINGS + r.pick(&reals).0] = r.pick(&NOT_FINITE);
+}
+
+/// One or two words more or less, none, or twice as many and one.
+fn change_length(r: &mut Rng, words: &mut Vec<u64>) {
+    let length = words.len();
+    let other = match r.below(6) {
+        0 => 0,
+        1 => 2 * length + 1,
+        2 => length + 2,
+        3 => length.saturating_sub(2),
+        4 => length + 1,
+        _ => length.saturating_sub(1),
+    };
+    words.resize(if other == length { length + 1 } else { other }, 7);
+}
+
+/// A number of no block, a type of no controller, or words that are not seventeen each.
+fn name_no_block(r: &mut Rng, rows: &mut Vec<u64>, row: usize) {
+    let place = row * ROW_WORDS;
+    match r.below(4) {
+        _ if place >= rows.len() => rows.push(0),
+        0 => drop(rows.pop()),
+        1 => rows.push(0),
+        2 if rows[place] < 2 => rows[place + SETTINGS] = r.pick(&[4, 5, 1 << 32, u64::MAX]),
+        _ => rows[place] = r.pick(&[7, 8, 1 << 32, u64::MAX]),
+    }
+}
+
+/// A previous time that is neither unset nor finite, or a head or count outside of the ring.
+fn damage(r: &mut Rng, call: &mut Call, row: usize) -> bool {
+    let (words, kind, time) = stretch(call, row);
+    if kind == Kind::MovingAverage && r.one_in(2) {
+        let capacity = (words.len() as u64 - 6) / 2;
+        if r.one_in(2) {
+            words[3] = r.pick(&[capacity, capacity + 1, u64::MAX]);
+        } else {
+            words[4] = r.pick(&[capacity + 1, capacity + 2, u64::MAX]);
+        }
+        return true;
+    }
+    time.is_some_and(|n| {
+        words[n] = r.pick(&NOT_FINITE);
+        true
+    })
+}
+
+/// A previous time above the tick's, which is finite.
+fn set_ahead(r: &mut Rng, call: &mut Call, row: usize) -> bool {
+    let time = f64::from_bits(call.tick.map_or(0, |tick| tick.time));
+    let ahead = r.pick(&[next_up(time), time + 1.0, f64::MAX]);
+    let (words, _, place) = stretch(call, row);
+    match place {
+        Some(n) if ahead.is_finite() && ahead > time => words[n] = ahead.to_bits(),
+        _ => return false,
+    }
+    true
+}
+
+/// The row's stretch, its block, and the place of the previous time in it. The rows name blocks, and their lengths are those of the region.
+fn stretch(call: &mut Call, row: usize) -> (&mut [u64], Kind, Option<usize>) {
+    let rows = rows_of(&call.rows).expect("the rows name blocks");
+    let length = |n: usize| model::state_length(rows[n].kind, &rows[n].settings).1;
+    let begin: usize = (0..row).map(length).sum();
+    let words = &mut call.region[begin..begin + length(row)];
+    let kind = rows[row].kind;
+    (words, kind, kind.time_place(&rows[row].settings))
+}

@@ -1,0 +1,114 @@
+//! A sheet as its blocks run singly: numbers, rows, answers and words come from each block's own calls on its stretch.
+use std::ops::Range;
+
+use crate::sheet::{NO_BLOCK, Row, SheetAnswer, Tick, rows_of};
+use crate::{Answer, Calls};
+
+/// Rows with their stretches, or the refusal of 13 or 1 to 3.
+type Laid = Result<Vec<(Row, Range<usize>)>, SheetAnswer>;
+
+fn laid(blocks: &Calls, rows: &[u64], region: &[u64]) -> Laid {
+    let refused = |number, row| Err(SheetAnswer::refused(number, row));
+    let Some(rows) = rows_of(rows) else {
+        return refused(NO_BLOCK, 0);
+    };
+    let columns = rows.iter().flat_map(|row| row.columns);
+    if !(1..=16).contains(&rows.len()) || columns.max() > Some(7) {
+        return refused(1, 0);
+    }
+    let (mut laid, mut end) = (vec![], 0);
+    for (n, row) in rows.into_iter().enumerate() {
+        let (number, length) = (blocks.state_length)(row.kind, &row.settings);
+        if number != 0 {
+            return refused(number, n);
+        }
+        laid.push((row, end..end + length));
+        end += length;
+    }
+    if end == region.len() {
+        Ok(laid)
+    } else {
+        refused(3, 0)
+    }
+}
+
+/// A start of each block.
+///
+/// # Panics
+/// If a block refuses what its sheet accepts.
+pub fn start(blocks: &Calls, rows: &[u64], region: &mut [u64]) -> SheetAnswer {
+    let rows = match laid(blocks, rows, region) {
+        Ok(rows) => rows,
+        Err(refused) => return refused,
+    };
+    for (row, stretch) in rows {
+        let number = (blocks.start)(row.kind, &row.settings, &mut region[stretch]);
+        assert_eq!(number, 0, "a block refuses its start");
+    }
+    SheetAnswer::default()
+}
+
+/// An emit of each block, then an update of each. The least number of an emit is the sheet's.
+///
+/// # Panics
+/// If a block refuses an update after it accepted the emit.
+pub fn tick(
+    blocks: &Calls,
+    rows: &[u64],
+    tick: &Tick,
+    region: &mut [u64],
+    answers: &mut [u64],
+) -> SheetAnswer {
+    let rows = match laid(blocks, rows, region) {
+        Ok(rows) if answers.len() == 2 * rows.len() => rows,
+        Ok(_) => return SheetAnswer::refused(4, 0),
+        Err(refused) => return refused,
+    };
+    let inputs = |row: &Row| row.columns.map(|column| tick.words[column as usize]);
+    let emit = |(row, stretch): &(Row, Range<usize>)| {
+        (blocks.emit)(
+            row.kind,
+            &row.settings,
+            tick.time,
+            &inputs(row),
+            &region[stretch.clone()],
+        )
+    };
+    let emitted: Vec<Answer> = rows.iter().map(emit).collect();
+    if let Some(refused) = least(&emitted) {
+        return refused;
+    }
+    let mut warning = false;
+    for (n, (row, stretch)) in rows.into_iter().enumerate() {
+        let words = &mut region[stretch];
+        let updated = (blocks.update)(row.kind, &row.settings, tick.time, &inputs(&row), words);
+        assert_eq!(updated.refusal, 0, "a block refuses its update");
+        warning |= updated.warning;
+        (answers[2 * n], answers[2 * n + 1]) = crossed(&row, &emitted[n]);
+    }
+    SheetAnswer {
+        warning,
+        ..SheetAnswer::default()
+    }
+}
+
+/// The least number of the blocks', and the topmost row that has it; 5 is of no row.
+fn least(emitted: &[Answer]) -> Option<SheetAnswer> {
+    let numbers = emitted.iter().map(|answer| answer.refusal).enumerate();
+    let refused = numbers.filter(|(_, number)| *number != 0);
+    let (row, number) = refused.min_by_key(|(row, number)| (*number, *row))?;
+    Some(SheetAnswer::refused(
+        number,
+        if number == 5 { 0 } else { row },
+    ))
+}
+
+/// A row's two answer words.
+fn crossed(row: &Row, answer: &Answer) -> (u64, u64) {
+    let boolean = u64::from(answer.boolean);
+    match row.kind.outputs().as_bytes() {
+        [b'b'] => (boolean, 0),
+        [b'r'] => (answer.real, 0),
+        _ => (answer.real, boolean),
+    }
+}

@@ -1,0 +1,148 @@
+//! The slips in the model's sheet, one at a time put into a copy.
+use crate::table::{Slip, slip};
+
+/// A slip that a comparison of sheets must show.
+const fn sheet(name: &'static str, text: &'static str, slipped: &'static str) -> Slip {
+    slip(name, "sheet", "sheet.rs", text, slipped)
+}
+
+/// All slips of the sheet.
+pub const SHEET_SLIPS: [Slip; 29] = [
+    sheet(
+        "row numbers from 1",
+        "SheetAnswer::refused(6, n)",
+        "SheetAnswer::refused(6, n + 1)",
+    ),
+    sheet(
+        "no row beside 2",
+        "SheetAnswer::refused(2, n)",
+        "SheetAnswer::refused(2, 0)",
+    ),
+    sheet(
+        "a row beside 3",
+        "SheetAnswer::refused(3, 0)",
+        "SheetAnswer::refused(3, rows.len() - 1)",
+    ),
+    sheet(
+        "the lowest row at fault",
+        "(0..rows.len()).find(",
+        "(0..rows.len()).rev().find(",
+    ),
+    sheet(
+        "emits after the updates",
+        "        let (s, words) = (&row.settings, &region[stretch(rows, n)]);\n",
+        "        let (s, mut words) = (&row.settings, region[stretch(rows, n)].to_vec());\n        super::update(row.kind, s, tick.time, &inputs(row, tick), &mut words);\n        let words = &words;\n",
+    ),
+    sheet(
+        "the warning of the last row alone",
+        "warning |= updated.warning;",
+        "warning = updated.warning;",
+    ),
+    sheet(
+        "the warning of the first row alone",
+        "warning |= updated.warning;",
+        "warning |= updated.warning && n == 0;",
+    ),
+    sheet(
+        "stretches one word off",
+        "lengths(&rows[..n])..lengths(&rows[..=n])",
+        "lengths(&rows[..n]).saturating_sub(usize::from(n > 0))..lengths(&rows[..=n]).saturating_sub(usize::from(n > 0))",
+    ),
+    sheet(
+        "stretches from the last row on",
+        "lengths(&rows[..n])..lengths(&rows[..=n])",
+        "lengths(&rows[n + 1..])..lengths(&rows[n..])",
+    ),
+    sheet(
+        "6 and 7 tried row by row",
+        "if let Some(n) = topmost(rows, damaged) {",
+        "if let Some(n) = topmost(rows, damaged).filter(|n| !(0..*n).any(runs_back)) {",
+    ),
+    sheet(
+        "7 before 6",
+        "if let Some(n) = topmost(rows, damaged) {",
+        "if let Some(n) = topmost(rows, runs_back) {\n        SheetAnswer::refused(7, n)\n    } else if let Some(n) = topmost(rows, damaged) {",
+    ),
+    sheet(
+        "2 before 1",
+        "    if rows.is_empty() ||",
+        "    if let Some(n) = topmost(rows, settings_fault) {\n        SheetAnswer::refused(2, n)\n    } else if rows.is_empty() ||",
+    ),
+    sheet(
+        "5 before 4",
+        "    if answers.len() != 2 * rows.len() {",
+        "    if !is_finite(tick.time) {\n        SheetAnswer::refused(5, 0)\n    } else if answers.len() != 2 * rows.len() {",
+    ),
+    sheet(
+        "no second output",
+        "[answer.real, boolean]",
+        "[answer.real, 0]",
+    ),
+    sheet(
+        "the outputs in the other order",
+        "[answer.real, boolean]",
+        "[boolean, answer.real]",
+    ),
+    sheet(
+        "a boolean in the second word",
+        "_ => [boolean, 0],",
+        "_ => [0, boolean],",
+    ),
+    sheet(
+        "the second input from the first column",
+        "row.columns.map(",
+        "[row.columns[0], row.columns[0], row.columns[2]].map(",
+    ),
+    sheet(
+        "the third input from the second column",
+        "row.columns.map(",
+        "[row.columns[0], row.columns[1], row.columns[1]].map(",
+    ),
+    sheet("one row too many", "rows.len() > 16", "rows.len() > 17"),
+    sheet("no rows taken", "rows.is_empty() || ", ""),
+    sheet(
+        "a column that its block does not read let through",
+        "rows[n].columns.iter().any(",
+        "rows[n].columns.iter().take(rows[n].kind.inputs().len()).any(",
+    ),
+    sheet(
+        "the third column let through",
+        "rows[n].columns.iter().any(",
+        "rows[n].columns[..2].iter().any(",
+    ),
+    sheet(
+        "a region that is too long taken",
+        "region.len() != rows.iter()",
+        "region.len() < rows.iter()",
+    ),
+    sheet(
+        "an answer space that is too large taken",
+        "answers.len() != 2 * rows.len()",
+        "answers.len() < 2 * rows.len()",
+    ),
+    sheet(
+        "a refused tick wipes the answers",
+        "    let refused = tick_refusal(rows, tick, region, answers);\n",
+        "    let refused = tick_refusal(rows, tick, region, answers);\n    answers.fill(0);\n",
+    ),
+    sheet(
+        "a refused start wipes the region",
+        "    let refused = start_refusal(rows, region);\n",
+        "    let refused = start_refusal(rows, region);\n    region.fill(0);\n",
+    ),
+    sheet(
+        "a start refuses words that are damaged",
+        "    let refused = start_refusal(rows, region);\n    if refused.refusal != 0 {",
+        "    let refused = start_refusal(rows, region);\n    let words = |n: usize| &region[stretch(rows, n)];\n    if refused.refusal != 0\n        || topmost(rows, |n| region_fault(rows[n].kind, &rows[n].settings, words(n))).is_some()\n    {",
+    ),
+    sheet(
+        "the last row not started",
+        "    for (n, row) in rows.iter().enumerate() {\n        super::start(",
+        "    for (n, row) in rows.iter().enumerate().take(15) {\n        super::start(",
+    ),
+    sheet(
+        "the last row not updated",
+        "        warning |= updated.warning;\n    }\n",
+        "        warning |= updated.warning;\n        if n == 14 {\n            break;\n        }\n    }\n",
+    ),
+];

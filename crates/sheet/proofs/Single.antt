@@ -14,14 +14,14 @@ use lib.Ieee.{Float}
 use lib.Ieee.Scale.{finite}
 use Rattle.dynamics.specs.Previous.{runsBack}
 use Rattle.dynamics.specs.Answer.{refusalOf, formRefusal}
-use Rattle.dynamics.specs.Machine.{Machine, sized, startRefusal, tickRefusal, stateRefusal}
+use Rattle.dynamics.specs.Machine.{Machine, sized, startRefusal, tickRefusal, stateRefusal, updateAnswer}
 use Rattle.dynamics.proofs.Accepted.{accepted, all-passed}
 use Rattle.dynamics.proofs.Calls.{tick-2, form-right}
-use Rattle.blocks.specs.Block.{machineOf, ticked}
+use Rattle.blocks.specs.Block.{machineOf, inputsOf, ticked}
 use Rattle.blocks.specs.declared.block.Tick.{Tick}
 use Rattle.blocks.proofs.Lengths.{started-length, updated-length}
-use Rattle.sheet.specs.Rows.{wide, widthOf, Placed, placed, every, firstFailing, joined}
-use Rattle.sheet.specs.Sheet.{fewRows, inReach, settled, decodes, onTime, startNumber, tickNumber, rowAtFault, startsOn, rowTick, answersOf, leftOf, SheetStarted, SheetTicked}
+use Rattle.sheet.specs.Rows.{wide, widthOf, Placed, placed, every, anyOf, firstFailing, joined}
+use Rattle.sheet.specs.Sheet.{fewRows, inReach, settled, decodes, onTime, startNumber, tickNumber, rowAtFault, startsOn, rowTick, answersOf, leftOf, tickSaid, SheetStarted, SheetTicked}
 use Rattle.sheet.specs.Single.{At, nowHas, StartsSingly, TicksSingly, ownNumber, Topmost}
 use Rattle.sheet.specs.declared.row.Row.{Row}
 use Rattle.sheet.specs.declared.row.SheetAnswer.{SheetAnswer}
@@ -103,6 +103,12 @@ module _ (k : Tick) (rs : List Row) (ws os : List ℕ) where
     leaves = rw (said .region, ← accepted (joined (leftOf k) ps) ws (tickNumber time rs ws os) (sym z))
         (work-at (leftOf k) (λ q. updated-length (q .row .block) time _ (q .words)) rs ws (passed z .width) n p a);
   }
+
+  -- the warning is that some row's own update warns
+  pub warns-singly : (r : SheetAnswer) (left out : List ℕ) → SheetTicked k rs ws os r left out → tickNumber time rs ws os ≡ 0
+      → r .warning ≡ anyOf (λ p. updateAnswer (machineOf (p .row .block)) time (inputsOf (rowTick k (p .row))) (p .words) .warning) ps
+  unfolding ticked rowTick tickSaid
+  warns-singly r left out said z = ap (λ (a : SheetAnswer). a .warning) (said .answer ∙ sym (accepted _ _ _ (sym z)))
 
 -- ---- an accepted start
 -- the row's block accepts a start on its own stretch

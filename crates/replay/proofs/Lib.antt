@@ -4,4 +4,3 @@ pub mod Lines
 pub mod Listing
 pub mod Putting
 pub mod Regions
-pub mod Stretches

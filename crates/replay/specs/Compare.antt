@@ -4,6 +4,7 @@ use mathlib.Core.Path.{_≡_}
 use mathlib.Core.List.{List}
 use mathlib.Core.Bool.{Bool, true, _&&_}
 use lib.ListN.{length, replicate}
+use Rattle.text.specs.Bytes.{sameList}
 use Rattle.dynamics.specs.Machine.{emitAnswer, updateAnswer, updatedWords, tickAnswer}
 use Rattle.blocks.specs.Block.{machineOf, inputsOf}
 use Rattle.blocks.specs.declared.block.Block.{Block}
@@ -14,7 +15,7 @@ use Rattle.replay.specs.declared.compare.Verdict.the-variants as verdict
 use Rattle.replay.specs.declared.region.Next.{Next}
 use Rattle.replay.specs.declared.region.Next.the-variants.{At, Bad}
 use Rattle.replay.specs.Answer.{storedAt, emitted, updated, ticked}
-use Rattle.replay.specs.Region.{filled, ending, sameWords}
+use Rattle.replay.specs.Region.{filled, ending}
 
 -- the words from before the call on a region of n words, where its answers start, and the words from after it
 module _ (pairs : Bool) (words : List ℕ) (at n : ℕ) where
@@ -48,12 +49,12 @@ module _ (block : Block) (tick : Tick) (region : List ℕ) (stored : Stored) whe
   unfoldable pub updates : List ℕ → Bool
   updates expected =
       updated (updateAnswer (machineOf block) (tick .time) (inputsOf tick) region) stored
-      && sameWords (updatedWords (machineOf block) (tick .time) (inputsOf tick) region) expected
+      && sameList (updatedWords (machineOf block) (tick .time) (inputsOf tick) region) expected
 
   unfoldable pub ticks : List ℕ → Bool
   ticks expected =
       ticked (tickAnswer (machineOf block) (tick .time) (inputsOf tick) region) stored
-      && sameWords (updatedWords (machineOf block) (tick .time) (inputsOf tick) region) expected
+      && sameList (updatedWords (machineOf block) (tick .time) (inputsOf tick) region) expected
 
 module _ (block : Block) (tick : Tick) (pairs : Bool) (words : List ℕ) (at n : ℕ) where
   -- the words are a stored call on a region of n words, and the block gives all that is stored

@@ -6,4 +6,3 @@ pub mod Line
 pub mod List
 pub mod Region
 pub mod Replay
-pub mod Stretch

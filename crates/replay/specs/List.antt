@@ -2,7 +2,7 @@
 use Prim.Native.Nat.{ℕ, _+_, _-_, _≤_}
 use mathlib.Core.List.{List}
 use lib.ListN.{length, take, drop}
-use Rattle.replay.specs.Stretch.{upTo}
+use Rattle.text.specs.Stretches.{upTo}
 use Rattle.replay.specs.declared.form.Form.{Form}
 use Rattle.replay.specs.declared.compare.Verdict.{Verdict}
 use Rattle.replay.specs.declared.compare.Verdict.the-variants as verdict

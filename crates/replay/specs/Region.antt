@@ -2,8 +2,7 @@
 use Prim.Native.Nat.{ℕ, zero, suc, _+_, _*_}
 use mathlib.Core.Path.{_≡_}
 use mathlib.Core.List.{List, [], _∷_}
-use mathlib.Core.Bool.{Bool, true, false, cond}
-use lib.Dec.{eqb}
+use mathlib.Core.Bool.{Bool, true, false}
 use lib.ListN.{length, take, drop, getD, set}
 use Rattle.replay.specs.declared.region.Next.{Next}
 use Rattle.replay.specs.declared.region.Next.the-variants.{At, Bad}
@@ -34,10 +33,3 @@ pub record Filled (pairs : Bool) (words : List ℕ) (at : ℕ) (old : List ℕ) 
 abbrev pub PutIn : Bool → List ℕ → ℕ → List ℕ → Next → List ℕ → Type 0
 PutIn pairs words at old (At next) new = Filled pairs words at old next new
 PutIn pairs words at old Bad new = Unit {0}
-
--- whether two lists have the same words
-unfoldable pub sameWords : List ℕ → List ℕ → Bool
-sameWords [] [] = true
-sameWords [] (y ∷ b) = false
-sameWords (x ∷ a) [] = false
-sameWords (x ∷ a) (y ∷ b) = cond (eqb x y) (sameWords a b) false

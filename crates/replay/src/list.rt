@@ -6,7 +6,7 @@ use crate::form::form_of;
 use crate::line::read_words;
 use crate::report::print_tally;
 use crate::report::tell;
-use crate::stretch::end_of;
+use text::end_of;
 ghost use mathlib.Core.Path.{_≡_};
 ghost use Prim.Native.Nat.{_≤_};
 ghost use lib.ListN.{length};

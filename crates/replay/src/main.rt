@@ -7,7 +7,6 @@ mod line;
 mod list;
 mod region;
 mod report;
-mod stretch;
 
 // The longest list has 148206 bytes, and the largest region of a moving average 262158 words.
 fn main() {

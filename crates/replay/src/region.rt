@@ -4,7 +4,8 @@ use dynamics::store;
 ghost use mathlib.Core.Path.{_≡_};
 ghost use lib.ListN.{length, replicate};
 ghost use mathlib.Core.Bool.{true, false};
-ghost use Rattle.replay.specs.Region.{PutIn, sameWords};
+ghost use Rattle.replay.specs.Region.{PutIn};
+ghost use Rattle.text.specs.Bytes.{sameList};
 
 // Where what follows a region's words starts, or that they are no region's.
 pub enum Next {
@@ -71,7 +72,7 @@ pub fn put_afresh(pairs: bool, words: &[u64], at: usize, region: &mut [u64]) -> 
 
 // Whether two regions hold the same words.
 pub fn same_words(a: &[u64], b: &[u64]) -> bool
-    ensures { λ r. ⌜ r ≡ sameWords (now (a .entry)) (now (b .entry)) ⌝ }
+    ensures { λ r. ⌜ r ≡ sameList (now (a .entry)) (now (b .entry)) ⌝ }
 {
     if a.len() != b.len() {
         return false;

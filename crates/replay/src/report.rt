@@ -1,8 +1,8 @@
 // What is written to standard output.
 use crate::compare::Verdict;
 use crate::list::Tally;
-use crate::stretch::end_of;
 use libc::STDOUT_FILENO;
+use text::end_of;
 ghost use mathlib.Core.Path.{_≡_};
 ghost use Prim.Native.Nat.{_≤_};
 ghost use Rattle.replay.specs.List.{told};

@@ -1,1 +1,5 @@
+pub mod Bytes
+pub mod Decimal
+pub mod Items
+pub mod Stretches
 pub mod Word

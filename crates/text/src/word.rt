@@ -1,6 +1,7 @@
 // A word as text: sixteen upper-case hexadecimal digits.
 ghost use mathlib.Core.Path.{_≡_};
-ghost use Rattle.text.specs.Word.{digitValue, wordItem};
+ghost use Prim.Native.Nat.{_<_};
+ghost use Rattle.text.specs.Word.{digitValue, wordItem, glyph, wordText};
 
 // What an item says: a word, or nothing that can be read.
 pub enum Item {
@@ -43,4 +44,27 @@ pub fn read_word(s: &[u8]) -> Item
         i += 1;
     }
     Item::Word(word)
+}
+
+// The digit of a value below 16.
+fn digit(d: u64) -> u8
+    requires { ⌜ d < 16 ⌝ }
+    ensures { λ r. ⌜ r ≡ glyph d ⌝ }
+{
+    if d < 10 { 48 + d as u8 } else { 55 + d as u8 }
+}
+
+// The sixteen digits of a word.
+pub fn word_text(w: u64) -> [u8; 16]
+    ensures { λ r. ⌜ r ≡ wordText w ⌝ }
+{
+    let mut text = [0u8; 16];
+    let mut k: u64 = 16;
+    let mut i = 0;
+    while i < 16 {
+        k -= 1;
+        text[i] = digit((w >> (4 * k)) % 16);
+        i += 1;
+    }
+    text
 }

@@ -21,11 +21,17 @@ abbrev μ-loop : tie.MeasureT-loop
 loop-holds : tie.Need-loop-holds Inv-loop μ-loop
 loop-holds c = (omega arith, omega arith, omega arith, refl, refl, λ e h. h)
 
+part-replay-line-end : tie.Need-part-replay-line-end Inv-loop μ-loop
+part-replay-line-end c = omega (arith, c .end-of .ensures .1 (omega arith))
+
+add-at : tie.Need-add-at Inv-loop μ-loop
+add-at c = record { fits = omega (arith, c .before .before .before .before .before .before .before .before .before .before .end-of .ensures .1 (omega arith)) }
+
 loop-again : tie.Need-loop-again Inv-loop μ-loop
 loop-again c =
     let l = c .before .before .before .before .before .before .before .before .before .before .before .before .loop in
     let a = c .before .before .before .before .before .before .before .before .before .before .before .before .before .before .before .before .before .args in (
-      search needs,
+      omega (arith, c .before .before .before .before .before .before .before .before .before .before .end-of .ensures .1 (omega arith)),
       search needs,
       search needs,
       search needs,
@@ -54,12 +60,12 @@ replay-lines-spec =
     (λ c κs. search needs)
     (λ c. search needs)
     (λ c. search needs)
-    (λ c. search needs)
+    part-replay-line-end
     (λ c κs. search needs)
     (λ c. search needs)
     (λ c κs. search needs)
     (λ c. search needs)
-    (λ c. search needs)
+    add-at
     (λ c. search needs)
     loop-again
     (λ c. search needs)

@@ -4,13 +4,13 @@ use mathlib.Core.Path.{_≡_, refl, sym, _∙_}
 use borrow.Author.Needs.{needs}
 use native.Mathlib.Omega.{arith}
 use lib.ListN.{length, drop}
-use Rattle.replay.specs.Region.{sameWords}
-use Rattle.replay.proofs.Regions.{same-here, same-not, same-end, same-length}
+use Rattle.text.specs.Bytes.{sameList}
+use Rattle.text.proofs.Comparing.{same-here, same-not, same-end, same-length}
 use Rattle.replay.proofs.region.same_words.Statement.{statement}
 use Rattle.replay.proofs.region.same_words.Tie as tie
 
 abbrev Inv-loop : tie.InvT-loop
-Inv-loop a b i₀ i = (i ≤ length a) × (sameWords (drop i a) (drop i b) ≡ sameWords a b)
+Inv-loop a b i₀ i = (i ≤ length a) × (sameList (drop i a) (drop i b) ≡ sameList a b)
 
 abbrev μ-loop : tie.MeasureT-loop
 μ-loop a b i₀ i = length a - i

@@ -1,0 +1,14 @@
+pub mod Answering
+pub mod Counted
+pub mod Exact
+pub mod Example
+pub mod Feeding
+pub mod Finishing
+pub mod Going
+pub mod Holding
+pub mod OneResult
+pub mod Putting
+pub mod Short
+pub mod Sizes
+pub mod Whole
+pub mod Written

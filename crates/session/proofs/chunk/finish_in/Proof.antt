@@ -1,0 +1,44 @@
+-- `chunk::finish_in` meets its contract: its two ends are those of the definition. Assumes nothing.
+use borrow.Author.Needs.{needs}
+use mathlib.Core.Path.{sym}
+use native.Mathlib.Omega.{arith}
+use lib.ListN.{take}
+use lib.Seq.{length-take-le}
+use Rattle.session.proofs.Short.{line-short}
+use Rattle.session.proofs.Finishing.{finish-plain, finish-line, finish-both}
+use Rattle.session.proofs.chunk.finish_in.Statement.{statement}
+use Rattle.session.proofs.chunk.finish_in.Tie as tie
+
+returns : tie.Need-returns
+returns c =
+    let a = c .before .before .before .before .before .before .before .before .args in
+    finish-both (finish-plain (a .session) (a .region .now) (a .carry .now) (a .held) (omega arith) (c .before .before .before .before .if1 .taken) (c .before .before .put-closing .ensures))
+
+slice-aggregate-line-in : tie.Need-slice-aggregate-line-in
+slice-aggregate-line-in c = sym (length-take-le (c .before .least .result) (c .before .before .before .before .before .before .args .carry .now) (c .before .least .ensures .1 .0))
+
+put-closing-requires-2 : tie.Need-put-closing-requires-2
+put-closing-requires-2 c κs =
+    let a = c .before .before .before .before .before .before .before .before .before .before .before .before .before .before .args in
+    let w = c .before .before .before .before .before .line-in in
+    omega (arith, w .ensures .put .moved, w .kept .1 .1 .1 .0, c .before .before .before .before .before .before .before .before .before .before .before .before .before .before .pre, line-short (a .region .now) (a .session) (take (c .before .before .before .before .before .before .before .before .before .least .result) (a .carry .now)))
+
+returns-2 : tie.Need-returns-2
+returns-2 c =
+    let a = c .before .before .before .before .before .before .before .before .before .before .before .before .before .before .before .before .before .args in
+    finish-both (finish-line (a .session) (a .region .now) (a .carry .now) (a .held) (omega arith) (c .before .before .before .before .before .before .before .before .before .before .before .before .before .if1 .left) (c .before .before .before .before .before .before .before .before .before .before .before .before .least .ensures .1 .1) (c .before .before .before .before .before .before .before .before .line-in .ensures) (c .before .before .put-closing2 .ensures))
+
+pub finish-in-spec : {M : Type 1} → statement M
+finish-in-spec =
+    tie.close
+    (tie.spec
+    (λ c κs. search needs)
+    (λ c. search needs)
+    returns
+    (λ c κs. search needs)
+    slice-aggregate-line-in
+    (λ c κs. search needs)
+    put-closing-requires-2
+    (λ c. search needs)
+    (λ c. search needs)
+    returns-2)

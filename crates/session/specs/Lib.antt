@@ -1,0 +1,5 @@
+pub mod Answers
+pub mod Put
+pub mod Soak
+pub mod Stream
+pub mod Written

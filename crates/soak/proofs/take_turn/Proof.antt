@@ -1,0 +1,33 @@
+-- `take_turn` meets its contract: `feed` takes all that was read. Assumes nothing.
+use Prim.Native.Nat.{_*_, _≤_}
+use borrow.Author.Needs.{needs}
+use native.Mathlib.Omega.{arith}
+use lib.ListN.{length}
+use Rattle.soak.proofs.Turns.{turn-taken}
+use Rattle.soak.proofs.take_turn.Statement.{statement}
+use Rattle.soak.proofs.take_turn.Tie as tie
+
+returns : tie.Need-returns
+returns c =
+    let a = c .before .before .before .before .before .before .before .before .before .before .before .before .before .before .before .before .before .args in
+    let r = c .before .before .before .before .before .before .before .before .before .before .before .before .before .read in
+    let n = c .before .before .before .before .before .before .before .before .before .count in
+    let f = c .before .before .before .before .feed in
+    let room : 32 * length (r .last .1 .0) ≤ length (a .out .now) = omega (arith, r .kept .1 .0, c .before .before .before .before .before .before .before .before .before .before .before .before .before .before .before .before .before .pre .1) in
+    turn-taken (a .session) (a .held) (a .carry .now) (a .region .now) (r .last .1 .0) (n .result) (n .ensures .0 .0) room (f .ensures .0) (f .ensures .1 .0)
+
+pub take-turn-spec : {M : Type 1} → statement M
+take-turn-spec =
+    tie.close
+    (tie.spec
+    (λ c κs. search needs)
+    (λ c κs. search needs)
+    (λ c. search needs)
+    (λ c. search needs)
+    (λ c κs. search needs)
+    (λ c. search needs)
+    (λ c. search needs)
+    (λ c κs. search needs)
+    (λ c. search needs)
+    (λ c. search needs)
+    returns)

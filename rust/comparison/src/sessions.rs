@@ -1,6 +1,6 @@
-//! Stored sessions of `soak`: an input, a line `%`, the output, a line `%%`. An input whose last
-//! line lacks its end is followed by a line `\`.
-use crate::inputs::{self, Rng};
+//! Sessions of `soak`. Stored ones are an input, a line `%`, the output, a line `%%`; an input
+//! whose last line lacks its end is followed by a line `\`. Long ones are inputs alone.
+use crate::inputs::{self, NOT_FINITE, Rng};
 use crate::soak::soak;
 use crate::{Kind, hex};
 
@@ -62,6 +62,67 @@ fn session(r: &mut Rng, kind: Kind) -> String {
     text
 }
 
+/// A long input of a block: of its later lines one in `rare` is bad, and one in `rare` has a time
+/// that is to be refused. Booleans keep their value for some ticks. Inputs are tame, but in the
+/// last tenth of any sort: an integrator that has met a NaN keeps it.
+#[must_use]
+pub fn long(kind: Kind, lines: u64, rare: u64, seed: u64) -> String {
+    let mut r = Rng::new(seed, 300 + kind as u64);
+    let mut text = first_line(kind, &long_settings(&mut r, kind, seed)) + "\n";
+    let (mut time, mut inputs) = (0.0, [0; 3]);
+    for n in 0..lines {
+        long_inputs(&mut r, kind, n >= lines - lines / 10, &mut inputs);
+        let refused = r.one_in(rare);
+        let word = if refused {
+            r.pick(&[NOT_FINITE[0], NOT_FINITE[3], (time - 0.5f64).to_bits()])
+        } else {
+            time += step(&mut r);
+            time.to_bits()
+        };
+        let line = written_tick(kind, word, inputs);
+        let bad = !refused && r.one_in(rare);
+        text += &if bad { damaged(&mut r, &line) } else { line };
+        text.push('\n');
+    }
+    text
+}
+
+/// Settings with which the outputs move: limits that are seldom met, windows and durations of
+/// seconds or minutes. The seeds 1 to 4 are a controller's types PI, PD, PID and P.
+fn long_settings(r: &mut Rng, kind: Kind, seed: u64) -> Vec<u64> {
+    let numbers = [0.8, 300.0, 0.5, 2.0, 20.0, -20.0, 0.9, 10.0, 0.5, 0.25, 3.0];
+    let item = |(n, item)| match item {
+        b'c' => seed % 4,
+        b'b' => r.below(2),
+        _ if kind.is_controller() => f64::to_bits(numbers[n - 1]),
+        _ if kind == Kind::MovingAverage => r.pick(&[2.0f64, 60.0, 300.0, 1024.0]).to_bits(),
+        _ => (r.below(100) as f64 / 8.0).to_bits(),
+    };
+    kind.settings().bytes().enumerate().map(item).collect()
+}
+
+/// The seconds to the next tick, now and then none.
+fn step(r: &mut Rng) -> f64 {
+    match r.below(16) {
+        0 => 0.0,
+        1 => r.unit() * 1e-3,
+        2..=5 => r.unit(),
+        6 => r.unit() * 60.0,
+        n => (n - 6) as f64 * 0.25,
+    }
+}
+
+/// The next inputs after these.
+fn long_inputs(r: &mut Rng, kind: Kind, any: bool, inputs: &mut [u64; 3]) {
+    for (item, word) in kind.inputs().bytes().zip(inputs) {
+        match item {
+            b'r' if any => *word = inputs::any_real(r),
+            b'r' => *word = inputs::tame(r).to_bits(),
+            _ => *word ^= u64::from(r.one_in(5)),
+        }
+    }
+}
+
 fn first_line(kind: Kind, s: &[u64]) -> String {
     let items = kind.settings().bytes().zip(s);
     let written = items.map(|(item, w)| match item {
@@ -74,6 +135,10 @@ fn first_line(kind: Kind, s: &[u64]) -> String {
 
 fn tick_line(r: &mut Rng, kind: Kind, time: u64) -> String {
     let inputs = inputs::tick_inputs(r, kind);
+    written_tick(kind, time, inputs)
+}
+
+fn written_tick(kind: Kind, time: u64, inputs: [u64; 3]) -> String {
     let items = kind.inputs().bytes().zip(inputs);
     let written = items.map(|(item, w)| match item {
         b'r' => format!(" {}", hex(&[w])),

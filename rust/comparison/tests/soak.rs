@@ -11,18 +11,25 @@ fn root(folder: &str) -> PathBuf {
         .join(folder)
 }
 
+/// The inputs in a folder.
+fn inputs(folder: &str) -> Vec<PathBuf> {
+    let entries = fs::read_dir(root(folder)).expect("there are examples");
+    let paths = entries.map(|entry| entry.expect("an example").path());
+    paths
+        .filter(|path| path.extension().is_some_and(|e| e == "soak"))
+        .collect()
+}
+
 #[test]
 fn examples() {
-    let entries = fs::read_dir(root("examples")).expect("there are examples");
-    let paths = entries.map(|entry| entry.expect("an example").path());
-    let inputs: Vec<PathBuf> = paths
-        .filter(|path| path.extension().is_some_and(|e| e == "soak"))
-        .collect();
-    assert!(inputs.len() >= 4, "{} examples", inputs.len());
-    for path in inputs {
-        let input = fs::read(&path).expect("an input");
-        let due = fs::read_to_string(path.with_extension("expected")).expect("an output");
-        assert_eq!(soak(&input), due, "{}", path.display());
+    for folder in ["examples", "examples/oven_day"] {
+        let inputs = inputs(folder);
+        assert!(inputs.len() >= 4, "{} in {folder}", inputs.len());
+        for path in inputs {
+            let input = fs::read(&path).expect("an input");
+            let due = fs::read_to_string(path.with_extension("expected")).expect("an output");
+            assert_eq!(soak(&input), due, "{}", path.display());
+        }
     }
 }
 
@@ -36,6 +43,24 @@ fn stored_sessions() {
         for (input, due) in sessions {
             assert_eq!(soak(input.as_bytes()), due, "{input}");
         }
+    }
+}
+
+/// Of a long input's 2000 later lines more than 200 each are accepted, refused and bad.
+#[test]
+fn long_sessions() {
+    let seven = Kind::ALL
+        .into_iter()
+        .filter(|kind| *kind != Kind::LogicalVariablePulse);
+    for (kind, seed) in seven.flat_map(|kind| (1..=4).map(move |seed| (kind, seed))) {
+        let said = soak(sessions::long(kind, 2000, 6, seed).as_bytes());
+        assert_eq!(said.lines().count(), 2002);
+        let refused = said.lines().filter(|line| line.starts_with("refused"));
+        let (refused, bad) = (refused.count(), said.matches("bad").count());
+        assert!(
+            refused > 200 && bad > 200 && refused + bad < 1000,
+            "{kind:?} {seed}"
+        );
     }
 }
 

@@ -134,16 +134,19 @@ module _ (M : Machine) (time : Float) (i : Inputs) (w : List ℕ) where
   unfolding updateAnswer
   update-boolean = accept-ap (λ (a : Answer). a .boolean) number _ _ ∙ accept-const number false
 
+-- ---- settings that are accepted
+module _ (M : Machine) (settings : M .accepts ≡ true) where
+  pub length-0 : lengthAnswer M ≡ record { refusal = 0; length = M .size }
+  unfolding lengthAnswer lengthOf formRefusal refusalOf accept
+  length-0 = simp settings
+
+  -- a start on words of the right length leaves fresh ones
+  pub started-fresh : (w : List ℕ) → length w ≡ M .size → startedWords M w ≡ M .fresh
+  unfolding startedWords startRefusal formRefusal refusalOf accept
+  started-fresh w size = simp (settings, eq-eqb _ _ size)
+
 -- ---- settings that are not accepted: every call refuses them with 2
 module _ (M : Machine) (no-settings : M .accepts ≡ false) where
-  pub start-2 : (w : List ℕ) → startRefusal M w ≡ 2
-  unfolding startRefusal formRefusal refusalOf
-  start-2 w = simp no-settings
-
-  pub decode-2 : (w : List ℕ) → decodeRefusal M w ≡ 2
-  unfolding decodeRefusal refusalOf
-  decode-2 w = simp no-settings
-
   pub tick-2 : (time : Float) (w : List ℕ) → tickRefusal M time w ≡ 2
   unfolding tickRefusal refusalOf
   tick-2 time w = simp no-settings

@@ -4,15 +4,15 @@ use mathlib.Core.Path.{_≡_, refl, ap, sym, _∙_}
 use mathlib.Core.List.{List, [], _∷_, _++_, append-assoc, append-nil}
 use mathlib.Core.Bool.{Bool, true, false, not, cond}
 use native.Mathlib.Omega.{arith}
-use borrow.Author.Tests.{ltb-true, ltb-false, leb-true, le-leb, eq-eqb}
+use borrow.Author.Tests.{ltb-true, ltb-false, leb-true, le-leb}
 use lib.Dec.{ltb, leb, eqb}
 use lib.ListN.{length, take, drop, length-append}
 use lib.Seq.{take-append-seam, drop-append-seam, length-take-le}
-use Rattle.dynamics.specs.Answer.{formRefusal, accept, lengthOf, refusalOf}
-use Rattle.dynamics.specs.Machine.{Machine, lengthAnswer, startRefusal, startedWords, emitAnswer, updateAnswer, tickAnswer, updatedWords}
+use Rattle.dynamics.specs.Answer.{accept}
+use Rattle.dynamics.specs.Machine.{lengthAnswer, startedWords, emitAnswer, updateAnswer, tickAnswer, updatedWords}
 use Rattle.dynamics.specs.declared.call.Answer.{Answer}
 use Rattle.dynamics.specs.declared.call.Length.{Length}
-use Rattle.dynamics.proofs.Calls.{Together, tick-together, length-2}
+use Rattle.dynamics.proofs.Calls.{Together, tick-together, length-0, length-2, started-fresh}
 use Rattle.blocks.specs.Block.{machineOf, inputsOf, fresh, ticked}
 use Rattle.blocks.specs.declared.block.Block.{Block}
 use Rattle.blocks.specs.declared.block.Tick.{Tick}
@@ -191,15 +191,6 @@ over-silent region (line ∷ lines) = over-silent region lines
 over : (region text : List ℕ) (lines : List (List ℕ)) → text ++ answers region Over lines ≡ text
 over region text lines = ap (λ (l : List ℕ). text ++ l) (over-silent region lines) ∙ append-nil text
 
--- settings that are accepted
-length-0 : (M : Machine) → M .accepts ≡ true → lengthAnswer M ≡ record { refusal = 0; length = M .size }
-unfolding lengthAnswer lengthOf formRefusal refusalOf accept
-length-0 M e = simp e
-
-started-fresh : (M : Machine) (w : List ℕ) → M .accepts ≡ true → length w ≡ M .size → startedWords M w ≡ M .fresh
-unfolding startedWords startRefusal formRefusal refusalOf accept
-started-fresh M w e size = simp (e, eq-eqb _ _ size)
-
 module _ (region : List ℕ) (lent : length region ≡ 4110) where
   -- what is written for a block, by what its settings are
   abbrev by-length : Block → Length → Went
@@ -219,7 +210,7 @@ module _ (region : List ℕ) (lent : length region ≡ 4110) where
       let M = machineOf b in
       let n = M .size in
       let fits : leb n (length region) ≡ true = ap (leb n) lent ∙ room b f e ∙ ap not short in
-      let begun : startedWords M (take n region) ≡ fresh b = started-fresh M (take n region) e (length-take-le n region (leb-true n (length region) fits)) in
+      let begun : startedWords M (take n region) ≡ fresh b = started-fresh M e (take n region) (length-take-le n region (leb-true n (length region) fits)) in
       let os = outcomes b (fresh b) later in
       let a : 0 + tally ifAccepted os ≡ tally ifAccepted os = omega arith in
       let d : 0 + tally ifRefused os ≡ tally ifRefused os = omega arith in

@@ -11,7 +11,7 @@ use lib.ListN.{length, take, drop, getD, drop-of-length-le}
 use lib.Seq.{drop-cons, take-all}
 use Rattle.session.specs.declared.state.Session.{Session}
 use Rattle.session.specs.Put.{Put}
-use Rattle.session.specs.Stream.{lineIn, Goes, Stream, lineEnds, byteHeld, byteIn, streamed, atHand, Feeds, HeldByte}
+use Rattle.session.specs.Stream.{lineIn, Goes, Stream, lineEnds, heldMore, heldWith, byteHeld, byteIn, streamed, atHand, Feeds}
 use Rattle.session.proofs.Going.{goes}
 use Rattle.session.proofs.Putting.{put-more, put-none, put-taken, put-as}
 use Rattle.session.proofs.Short.{line-short}
@@ -73,17 +73,14 @@ module _ {st : Stream} {chunk old : List ℕ} {s : Session} {region carry : List
       turn h text = unfold lineEnds in rw (h .session, h .words, text) refl
 
   -- the byte is held
-  pub running-byte : (getD chunk i 0 ≡ 10 → ⊥) → {held' : ℕ} {carry' : List ℕ} → HeldByte carry held (getD chunk i 0) held' carry'
+  pub running-byte : (getD chunk i 0 ≡ 10 → ⊥) → {held' : ℕ} {carry' : List ℕ} → held' ≡ heldMore held → carry' ≡ heldWith carry held (getD chunk i 0)
       → Running st chunk old s region carry' held' out at (i + 1)
-  running-byte no-10 {held'} {carry'} h =
+  running-byte no-10 {held'} {carry'} more with-byte =
+      let kept : seen s region carry' held' out at ≡ byteHeld (seen s region carry held out at) (getD chunk i 0) = rw (more, with-byte) refl in
       record {
-        leads = ap (λ (z : Stream). streamed z (drop (i + 1) chunk)) (kept (ltb held 256) refl ∙ sym (byte-stays (seen s region carry held out at) (getD chunk i 0) no-10)) ∙ next-byte;
+        leads = ap (λ (z : Stream). streamed z (drop (i + 1) chunk)) (kept ∙ sym (byte-stays (seen s region carry held out at) (getD chunk i 0) no-10)) ∙ next-byte;
         put = r .put;
       }
-    where
-      kept : (t : Bool) → ltb held 256 ≡ t → seen s region carry' held' out at ≡ byteHeld (seen s region carry held out at) (getD chunk i 0)
-      kept true e = unfold byteHeld in rw (h .count, h .bytes, e) refl
-      kept false e = unfold byteHeld in rw (h .count, h .bytes, e) refl
 
 -- the chunk is at its end
 pub running-end : {st : Stream} {chunk old : List ℕ} {s : Session} {region carry : List ℕ} {held : ℕ} {out : List ℕ} {at i : ℕ}

@@ -1,15 +1,15 @@
 -- However the input is cut, what is written is the answers to its lines, one after the other. Assumes nothing.
-use Prim.Native.Nat.{ℕ, suc}
+use Prim.Native.Nat.{ℕ}
 use mathlib.Core.Path.{_≡_, refl, ap, _∙_}
 use mathlib.Core.List.{List, [], _∷_, _++_, append-assoc}
 use mathlib.Core.Bool.{Bool, true, false, cond}
 use native.Mathlib.Omega.{arith}
 use borrow.Author.Tests.{eq-eqb, ne-eqb}
-use lib.Dec.{eqb, ltb}
-use lib.ListN.{length, set}
+use lib.Dec.{eqb}
+use lib.ListN.{length}
 use Rattle.session.specs.declared.state.Session.{Session}
 use Rattle.session.specs.Soak.{unended, linesFrom}
-use Rattle.session.specs.Stream.{lineIn, Stream, lineEnds, byteHeld, byteIn, streamed, lastLine, closing, ended}
+use Rattle.session.specs.Stream.{lineIn, Stream, withLine, lineEnds, byteHeld, byteIn, streamed, lastLine, closing, ended}
 use Rattle.session.proofs.Holding.{Holding, holding-none, holding-more, ended-line}
 
 -- what is written for lines, and then at the end
@@ -18,12 +18,6 @@ answers region s [] = closing s
 answers region s (line ∷ lines) =
     let w = lineIn region s line in
     w .text ++ answers (w .words) (w .session) lines
-
--- the line p is answered
-abbrev after-line : List ℕ → Stream → Stream
-after-line p st =
-    let w = lineIn (st .words) (st .session) p in
-    record { session = w .session; words = w .words; carry = st .carry; held = 0; text = st .text ++ w .text }
 
 -- the input ends
 last : (p : List ℕ) (st : Stream) → Holding p st → ended st ≡ st .text ++ answers (st .words) (st .session) (unended p)
@@ -34,16 +28,6 @@ last (b ∷ p) st h =
     ap (λ (t : Bool). cond t st (lineEnds st) .text ++ closing (cond t st (lineEnds st) .session)) (ne-eqb (st .held) 0 (λ (z : st .held ≡ 0). absurd (omega (arith, h .count))))
     ∙ ap (λ (z : Stream). z .text ++ closing (z .session)) (ended-line (b ∷ p) st h)
     ∙ append-assoc (st .text) (w .text) (closing (w .session))
-
--- a byte that is held changes nothing else
-held-alone : (st : Stream) (b : ℕ) → (byteHeld st b .session ≡ st .session) × (byteHeld st b .words ≡ st .words) × (byteHeld st b .text ≡ st .text)
-unfolding byteHeld
-held-alone st b = go (ltb (st .held) 256)
-  where
-    go : (t : Bool) → let z = cond t (record { session = st .session; words = st .words; carry = set (st .carry) (st .held) b; held = suc (st .held); text = st .text }) st in
-        (z .session ≡ st .session) × (z .words ≡ st .words) × (z .text ≡ st .text)
-    go true = (refl, refl, refl)
-    go false = (refl, refl, refl)
 
 run : (input p : List ℕ) (st : Stream) → Holding p st → ended (streamed st input) ≡ st .text ++ answers (st .words) (st .session) (linesFrom p input)
 unfolding streamed linesFrom byteIn answers
@@ -57,16 +41,9 @@ run (b ∷ input) p st h = go (eqb b 10) refl (run input)
         let w = lineIn (st .words) (st .session) p in
         rw e
         (ap (λ (z : Stream). ended (streamed z input)) (ended-line p st h)
-        ∙ more [] (after-line p st) (holding-none (after-line p st) (h .room) refl)
+        ∙ more [] (withLine st p) (holding-none (withLine st p) (h .room) refl)
         ∙ append-assoc (st .text) (w .text) (answers (w .words) (w .session) (linesFrom [] input)))
-    go false e more =
-        let o = held-alone st b in
-        let l = linesFrom (p ++ (b ∷ [])) input in
-        rw e
-        (more (p ++ (b ∷ [])) (byteHeld st b) (holding-more p st b h)
-        ∙ ap (λ (x : List ℕ). x ++ answers (byteHeld st b .words) (byteHeld st b .session) l) (o .2)
-        ∙ ap (λ (x : List ℕ). st .text ++ answers x (byteHeld st b .session) l) (o .1)
-        ∙ ap (λ (x : Session). st .text ++ answers (st .words) x l) (o .0))
+    go false e more = rw e (more (p ++ (b ∷ [])) (byteHeld st b) (holding-more p st b h))
 
 -- a run from the start of the input
 pub whole : (st : Stream) (input : List ℕ) → length (st .carry) ≡ 256 → st .held ≡ 0

@@ -1,15 +1,15 @@
 -- WHAT SOAK WRITES: all that `feed` and `finish` write for an input, however it is cut into chunks, is what document 01 says of its bytes. Assumes nothing.
-use Prim.Native.Nat.{ℕ, suc}
+use Prim.Native.Nat.{ℕ}
 use mathlib.Core.Path.{_≡_, refl, ap, sym, _∙_}
 use mathlib.Core.List.{List, [], _∷_, _++_, append-assoc, append-nil}
 use mathlib.Core.Bool.{Bool, true, false, cond}
-use lib.Dec.{eqb, ltb}
-use lib.ListN.{length, take, set}
+use lib.Dec.{eqb}
+use lib.ListN.{length, take}
 use Rattle.session.specs.declared.state.Session.{Session}
 use Rattle.session.specs.declared.state.Session.the-variants.{Fresh}
 use Rattle.session.specs.Soak.{linesFrom, soakOf}
 use Rattle.session.specs.Stream.{lineIn, Stream, lineEnds, byteHeld, byteIn, streamed, lastLine, closing, ended, atHand, Feeds, Finishes}
-use Rattle.session.specs.Written.{Written, FedAll, none, more}
+use Rattle.session.specs.Written.{Written, none, more}
 use Rattle.session.proofs.Whole.{answers, whole}
 use Rattle.session.proofs.Counted.{lines-are}
 use Rattle.session.proofs.Putting.{put-all}
@@ -23,23 +23,13 @@ before-line : (t : List ℕ) (st : Stream) → lineEnds (before t st) ≡ before
 unfolding lineEnds
 before-line t st = rw (append-assoc t (st .text) (lineIn (st .words) (st .session) (take (st .held) (st .carry)) .text)) refl
 
-before-held : (t : List ℕ) (st : Stream) (b : ℕ) → byteHeld (before t st) b ≡ before t (byteHeld st b)
-unfolding byteHeld
-before-held t st b = go (ltb (st .held) 256)
-  where
-    go : (s : Bool)
-        → cond s (record { session = st .session; words = st .words; carry = set (st .carry) (st .held) b; held = suc (st .held); text = t ++ st .text }) (before t st)
-        ≡ before t (cond s (record { session = st .session; words = st .words; carry = set (st .carry) (st .held) b; held = suc (st .held); text = st .text }) st)
-    go true = refl
-    go false = refl
-
 before-byte : (t : List ℕ) (st : Stream) (b : ℕ) → byteIn (before t st) b ≡ before t (byteIn st b)
 unfolding byteIn
 before-byte t st b = go (eqb b 10)
   where
     go : (s : Bool) → cond s (lineEnds (before t st)) (byteHeld (before t st) b) ≡ before t (cond s (lineEnds st) (byteHeld st b))
     go true = before-line t st
-    go false = before-held t st b
+    go false = refl
 
 before-all : (t s : List ℕ) (st : Stream) → streamed (before t st) s ≡ before t (streamed st s)
 unfolding streamed
@@ -62,61 +52,54 @@ unfolding streamed
 streamed-append st [] b = refl
 streamed-append st (x ∷ a) b = streamed-append (byteIn st x) a b
 
--- at first
-pub written-none : (region carry : List ℕ) → length region ≡ 4110 → length carry ≡ 256 → Written [] [] Fresh region carry 0
-unfolding streamed
-written-none region carry lent room = record {
-  from = atHand Fresh region carry 0;
-  starts = record { region = region; carry = carry; lent = lent; room = room; is = refl };
-  led = refl;
-}
+-- from a start the input leads here, and text is written on the way
+record Led (input text : List ℕ) (s : Session) (region carry : List ℕ) (held : ℕ) : Type 0 where
+  region₀ : List ℕ
+  carry₀ : List ℕ
+  lent : length region₀ ≡ 4110
+  room : length carry₀ ≡ 256
+  leads : streamed (atHand Fresh region₀ carry₀ 0) input ≡ record { session = s; words = region; carry = carry; held = held; text = text }
 
--- a chunk more
-pub written-more : {input text : List ℕ} {s : Session} {region carry : List ℕ} {held : ℕ} → Written input text s region carry held
+led-more : {input text : List ℕ} {s : Session} {region carry : List ℕ} {held : ℕ} → Led input text s region carry held
     → (chunk : List ℕ) {s' : Session} {region' carry' : List ℕ} {held' : ℕ} {old : List ℕ} {wrote : ℕ} {new : List ℕ}
     → Feeds (streamed (atHand s region carry held) chunk) s' region' carry' held' old wrote new
-    → Written (input ++ chunk) (text ++ take wrote new) s' region' carry' held'
-written-more {input} {text} {s} {region} {carry} {held} w chunk {s'} {region'} {carry'} {held'} {old} {wrote} {new} f =
+    → Led (input ++ chunk) (text ++ take wrote new) s' region' carry' held'
+led-more {input} {text} {s} {region} {carry} {held} w chunk {wrote = wrote} {new = new} f =
     let st = atHand s region carry held in
-    let more = streamed st chunk in
-    let said : take wrote new ≡ more .text = put-all (f .fits) (f .put) in
+    let said : take wrote new ≡ streamed st chunk .text = put-all (f .fits) (f .put) in
     record {
-      from = w .from;
-      starts = w .starts;
-      led =
-          streamed-append (w .from) input chunk
-          ∙ ap (λ (z : Stream). streamed z chunk) (w .led)
+      region₀ = w .region₀;
+      carry₀ = w .carry₀;
+      lent = w .lent;
+      room = w .room;
+      leads =
+          streamed-append (atHand Fresh (w .region₀) (w .carry₀) 0) input chunk
+          ∙ ap (λ (z : Stream). streamed z chunk) (w .leads)
           ∙ ap (λ (t : List ℕ). streamed (record { session = s; words = region; carry = carry; held = held; text = t }) chunk) (sym (append-nil text))
           ∙ before-all text chunk st
           ∙ rw (f .session, f .words, f .carried, f .holds, said) refl;
     }
 
--- the end: what was written so far and what `finish` writes is the whole
-pub written-whole : {input text : List ℕ} {s : Session} {region carry : List ℕ} {held : ℕ} → Written input text s region carry held
-    → {region' old : List ℕ} {wrote : ℕ} {new : List ℕ} → Finishes (atHand s region carry held) region' old wrote new
-    → text ++ take wrote new ≡ soakOf input
-written-whole {input} {text} {s} {region} {carry} {held} w {region'} {old} {wrote} {new} f =
-    let st = atHand s region carry held in
-    let o = w .starts in
-    ap (λ (l : List ℕ). text ++ l) (put-all (f .fits) (f .put))
-    ∙ sym (before-last text st)
-    ∙ ap (λ (t : List ℕ). ended (record { session = s; words = region; carry = carry; held = held; text = t })) (append-nil text)
-    ∙ ap ended (sym (w .led))
-    ∙ ap (λ (z : Stream). ended (streamed z input)) (o .is)
-    ∙ whole (atHand Fresh (o .region) (o .carry) 0) input (o .room) refl
-    ∙ soak-is (o .region) (o .lent)
-  where
-    soak-is : (region : List ℕ) → length region ≡ 4110 → answers region Fresh (linesFrom [] input) ≡ soakOf input
-    soak-is region lent = unfold soakOf in lines-are region lent (linesFrom [] input)
+led : {input text : List ℕ} {s : Session} {region carry : List ℕ} {held : ℕ} → Written input text s region carry held → Led input text s region carry held
+unfolding streamed
+led (none {region} {carry} lent room) = record { region₀ = region; carry₀ = carry; lent = lent; room = room; leads = refl }
+led (more w chunk f) = led-more (led w) chunk f
 
 -- ---- the whole run
 
-led-to : {input text : List ℕ} {s : Session} {region carry : List ℕ} {held : ℕ} → FedAll input text s region carry held → Written input text s region carry held
-led-to (none lent room) = written-none _ _ lent room
-led-to (more f chunk g) = written-more (led-to f) chunk g
-
 -- however an input is cut into chunks: what `feed` writes for them and what `finish` writes is, in all, what document 01 says of the input
-pub soak-writes : {input text : List ℕ} {s : Session} {region carry : List ℕ} {held : ℕ} → FedAll input text s region carry held
+pub soak-writes : {input text : List ℕ} {s : Session} {region carry : List ℕ} {held : ℕ} → Written input text s region carry held
     → {region' old : List ℕ} {wrote : ℕ} {new : List ℕ} → Finishes (atHand s region carry held) region' old wrote new
     → text ++ take wrote new ≡ soakOf input
-soak-writes f g = written-whole (led-to f) g
+soak-writes {input} {text} {s} {region} {carry} {held} written f =
+    let st = atHand s region carry held in
+    let w = led written in
+    ap (λ (l : List ℕ). text ++ l) (put-all (f .fits) (f .put))
+    ∙ sym (before-last text st)
+    ∙ ap (λ (t : List ℕ). ended (record { session = s; words = region; carry = carry; held = held; text = t })) (append-nil text)
+    ∙ ap ended (sym (w .leads))
+    ∙ whole (atHand Fresh (w .region₀) (w .carry₀) 0) input (w .room) refl
+    ∙ soak-is (w .region₀) (w .lent)
+  where
+    soak-is : (region : List ℕ) → length region ≡ 4110 → answers region Fresh (linesFrom [] input) ≡ soakOf input
+    soak-is region lent = unfold soakOf in lines-are region lent (linesFrom [] input)

@@ -107,17 +107,24 @@ pub record Stream : Type 0 where
   pub held : ℕ
   pub text : List ℕ
 
-unfoldable pub lineEnds : Stream → Stream
-lineEnds st =
-    let w = lineIn (st .words) (st .session) (take (st .held) (st .carry)) in
+-- the line has ended, and is answered
+abbrev pub withLine : Stream → List ℕ → Stream
+withLine st line =
+    let w = lineIn (st .words) (st .session) line in
     record { session = w .session; words = w .words; carry = st .carry; held = 0; text = st .text ++ w .text }
 
+unfoldable pub lineEnds : Stream → Stream
+lineEnds st = withLine st (take (st .held) (st .carry))
+
 -- of a line that is too long 256 bytes are held
-unfoldable pub byteHeld : Stream → ℕ → Stream
-byteHeld st b =
-    cond (ltb (st .held) 256)
-    (record { session = st .session; words = st .words; carry = set (st .carry) (st .held) b; held = suc (st .held); text = st .text })
-    st
+unfoldable pub heldMore : ℕ → ℕ
+heldMore held = cond (ltb held 256) (suc held) held
+
+unfoldable pub heldWith : List ℕ → ℕ → ℕ → List ℕ
+heldWith carry held b = cond (ltb held 256) (set carry held b) carry
+
+abbrev pub byteHeld : Stream → ℕ → Stream
+byteHeld st b = record { session = st .session; words = st .words; carry = heldWith (st .carry) (st .held) b; held = heldMore (st .held); text = st .text }
 
 unfoldable pub byteIn : Stream → ℕ → Stream
 byteIn st b = cond (eqb b 10) (lineEnds st) (byteHeld st b)
@@ -160,8 +167,3 @@ pub record Finishes (st : Stream) (region : List ℕ) (old : List ℕ) (wrote : 
   pub words : region ≡ lastLine st .words
   pub put : Put old 0 (ended st) wrote new
   pub fits : length (ended st) ≤ length old
-
--- what becomes of a byte of a line in the code's hands
-pub record HeldByte (carry : List ℕ) (held b : ℕ) (held' : ℕ) (carry' : List ℕ) : Type 0 where
-  pub count : held' ≡ cond (ltb held 256) (suc held) held
-  pub bytes : carry' ≡ cond (ltb held 256) (set carry held b) carry

@@ -7,7 +7,7 @@ ghost use mathlib.Core.Path.{_≡_};
 ghost use Prim.Native.Nat.{_+_, _*_, _/_, _≤_, min};
 ghost use lib.ListN.{length, take};
 ghost use Rattle.session.specs.Put.{Put, Counts};
-ghost use Rattle.session.specs.Stream.{HeldByte, atHand, streamed, Feeds, closing, Finishes};
+ghost use Rattle.session.specs.Stream.{heldMore, heldWith, atHand, streamed, Feeds, closing, Finishes};
 
 // The longest part of a line that is held: one byte more than a line may have.
 const HELD: usize = 256;
@@ -34,7 +34,8 @@ fn least(a: usize, b: usize) -> usize
 // Holds one more byte of a line. Of a line that is too long no more is held.
 fn hold_byte(carry: &mut [u8], held: usize, b: u8) -> usize
     requires { ⌜ length (now carry) ≡ 256 ⌝ }
-    ensures { λ r. ⌜ HeldByte (now (carry .entry)) held b r (now (carry .exit)) ⌝ }
+    ensures { λ r. ⌜ r ≡ heldMore held ⌝ }
+    ensures { λ _. ⌜ now (carry .exit) ≡ heldWith (now (carry .entry)) held b ⌝ }
 {
     if held < HELD {
         carry[held] = b;

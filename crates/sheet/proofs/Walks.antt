@@ -9,9 +9,8 @@ use borrow.Author.Tests.{leb-true, le-leb, lt-leb, eqb-true, eq-eqb, ne-eqb}
 use lib.Dec.{eqb, leb}
 use lib.ListN.{length, drop}
 use lib.Seq.{drop-drop}
-use Rattle.dynamics.specs.Answer.{refusalOf, formRefusal, accept, lengthOf}
-use Rattle.dynamics.specs.Machine.{Machine, lengthAnswer}
-use Rattle.dynamics.proofs.Calls.{length-2}
+use Rattle.dynamics.specs.Machine.{lengthAnswer}
+use Rattle.dynamics.proofs.Calls.{length-0, length-2}
 use Rattle.blocks.specs.Block.{machineOf}
 use Rattle.blocks.specs.declared.block.Tick.{Tick}
 use Rattle.sheet.specs.Rows.{wide, widthOf, Placed, placed, every, firstFailing}
@@ -81,11 +80,6 @@ unfolding every
 every-true [] = refl
 every-true (x ∷ xs) = every-true xs
 
--- what a row's length says of its settings
-pub length-of-settled : (M : Machine) → M .accepts ≡ true → lengthAnswer M ≡ record { refusal = 0; length = M .size }
-unfolding lengthAnswer lengthOf formRefusal refusalOf accept
-length-of-settled M e = simp e
-
 -- ---- a walk that looks at every row, and then tests its words by this number
 module _ (k : Tick) (ws os : List ℕ) (p : Phase) (number : Row → List ℕ → ℕ) (late : (r : Row) (w : List ℕ) → Above 3 (number r w)) where
   abbrev pub over : ℕ → List Row → Walk → Carried
@@ -113,10 +107,10 @@ module _ (k : Tick) (ws os : List ℕ) (p : Phase) (number : Row → List ℕ �
       on-unsettled e s = goes n r rs m j at ∙ rw (e, length-2 (machineOf (r .block)) s) refl
 
       on-outside : inReach r ≡ true → settled r ≡ true → leb (at + wide r) (length ws) ≡ false → over n (r ∷ rs) here ≡ over (n + 1) rs (noted here 3 0)
-      on-outside e s l = goes n r rs m j at ∙ rw (e, length-of-settled (machineOf (r .block)) s, l) refl
+      on-outside e s l = goes n r rs m j at ∙ rw (e, length-0 (machineOf (r .block)) s, l) refl
 
       on-inside : inReach r ≡ true → settled r ≡ true → leb (at + wide r) (length ws) ≡ true → over n (r ∷ rs) here ≡ over (n + 1) rs (movedTo (noted here σ n) (at + wide r))
-      on-inside e s l = goes n r rs m j at ∙ rw (e, length-of-settled (machineOf (r .block)) s, l) refl
+      on-inside e s l = goes n r rs m j at ∙ rw (e, length-0 (machineOf (r .block)) s, l) refl
 
     -- a column out of reach ends it
     pub out-of-reach : (n : ℕ) (rs : List Row) (m j at : ℕ) → every inReach rs ≡ false → Finds (over n rs (midway p m j at)) 1 0 ws os

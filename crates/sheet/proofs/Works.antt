@@ -8,6 +8,7 @@ use borrow.Author.Tests.{le-leb}
 use lib.Dec.{eqb, leb}
 use lib.ListN.{length, take, drop}
 use lib.Seq.{take-all}
+use Rattle.dynamics.proofs.Calls.{length-0}
 use Rattle.dynamics.specs.declared.call.Answer.{Answer}
 use Rattle.blocks.specs.Block.{machineOf, answerWords}
 use Rattle.blocks.specs.declared.block.Tick.{Tick}
@@ -20,7 +21,6 @@ use Rattle.sheet.specs.Walk.{Carried, carried, rowInputs, ranRow, starte
 use Rattle.sheet.specs.declared.row.Row.{Row}
 use Rattle.sheet.specs.declared.walk.Phase.the-variants.{Start, Run}
 use Rattle.sheet.specs.declared.walk.Walk.{Walk}
-use Rattle.sheet.proofs.Walks.{length-of-settled}
 use Rattle.sheet.proofs.Stretches.{both, take-put, drop-put, length-put, stretch-length, take-two, length-two, half}
 
 -- one row's work in its place is what the rows make from here on, before the rest is done
@@ -67,7 +67,7 @@ module _ (k : Tick) where
     start-step : settled r ≡ true → walked k n (r ∷ rs) (carried (startFrom at) ws os)
         ≡ walked k (n + 1) rs (carried (startFrom (at + wide r)) (done startsOn r rs at ws all (started-length (r .block) _ ∙ own-length startsOn r rs at ws all)) os)
     unfolding walked turned turnedIn startedRow
-    start-step e = rw (length-of-settled (machineOf (r .block)) e, next-at startsOn r rs at ws all) refl
+    start-step e = rw (length-0 (machineOf (r .block)) e, next-at startsOn r rs at ws all) refl
 
   pub started : (n : ℕ) (rs : List Row) (at : ℕ) (ws os : List ℕ) → at + widthOf rs ≡ length ws → every settled rs ≡ true
       → Works (walked k n rs (carried (startFrom at) ws os)) false (take at ws ++ joined startsOn (placed rs (drop at ws))) os

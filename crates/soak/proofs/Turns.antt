@@ -7,8 +7,7 @@ use lib.ListN.{length, take}
 use lib.Seq.{take-all, length-take-le}
 use Rattle.session.specs.declared.state.Session.{Session}
 use Rattle.session.specs.Stream.{streamed, atHand, Feeds}
-use Rattle.session.specs.Written.{Written}
-use Rattle.session.proofs.Written.{written-more}
+use Rattle.session.specs.Written.{Written, more}
 
 module _ (s : Session) (held : ℕ) (carry region chunk : List ℕ) (n : ℕ) {used : ℕ} {s' : Session} {region' carry' : List ℕ} {held' : ℕ} {old : List ℕ} {wrote : ℕ} {new : List ℕ}
     (inside : n ≤ length chunk) (room : 32 * length chunk ≤ length old) (takes : used ≡ min (length (take n chunk)) (length old / 32))
@@ -20,4 +19,4 @@ module _ (s : Session) (held : ℕ) (carry region chunk : List ℕ) (n : ℕ) {u
 
   pub turn-taken : (input text : List ℕ) → Written input text s region carry held → Written (input ++ take n chunk) (text ++ take wrote new) s' region' carry' held'
   turn-taken input text w =
-      written-more w (take n chunk) (subst (λ (l : List ℕ). Feeds (streamed (atHand s region carry held) l) s' region' carry' held' old wrote new) all-taken fed)
+      more w (take n chunk) (subst (λ (l : List ℕ). Feeds (streamed (atHand s region carry held) l) s' region' carry' held' old wrote new) all-taken fed)

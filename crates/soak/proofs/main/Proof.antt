@@ -5,7 +5,7 @@ use mathlib.Core.List.{[], _++_}
 use borrow.Author.Needs.{needs}
 use native.Mathlib.Omega.{arith}
 use lib.ListN.{length, take, length-replicate}
-use Rattle.session.proofs.Written.{written-none}
+use Rattle.session.specs.Written.{none}
 use Rattle.soak.specs.Run.{Reached}
 use Rattle.soak.proofs.main.Statement.{statement}
 use Rattle.soak.proofs.main.Tie as tie
@@ -18,7 +18,7 @@ abbrev μ-loop : tie.MeasureT-loop
 μ-loop carry₀ region₀ chunk₀ out₀ session₀ held₀ more₀ turns₀ t13 t14 t15 carry region chunk out session held more turns = turns
 
 loop-holds : tie.Need-loop-holds Inv-loop μ-loop
-loop-holds c = (sym (length-replicate {A = ℕ} 4096 0), sym (length-replicate {A = ℕ} 131072 0), ([], [], written-none _ _ (length-replicate {A = ℕ} 4110 0) (length-replicate {A = ℕ} 256 0)))
+loop-holds c = (sym (length-replicate {A = ℕ} 4096 0), sym (length-replicate {A = ℕ} 131072 0), ([], [], none (length-replicate {A = ℕ} 4110 0) (length-replicate {A = ℕ} 256 0)))
 
 take-turn-requires : tie.Need-take-turn-requires Inv-loop μ-loop
 take-turn-requires c κs =

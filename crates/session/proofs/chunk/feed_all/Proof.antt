@@ -57,7 +57,7 @@ loop-again-2 c =
       k .kept .0 ∙ l .inv .2,
       l .inv .3,
       l .inv .4,
-      running-byte (l .inv .5) (omega arith) (c .before .before .before .before .if1 .left) (k .ensures),
+      running-byte (l .inv .5) (omega arith) (c .before .before .before .before .if1 .left) (k .ensures .0) (k .ensures .1),
     )
 
 returns : tie.Need-returns Inv-loop μ-loop

@@ -1,0 +1,2 @@
+-- The one statement about the bench table.
+pub mod Bench

@@ -1,0 +1,3 @@
+-- What a row of the bench table is, then the table.
+pub mod Trials
+pub mod Table

@@ -1,3 +1,4 @@
+-- Laws of the choice over the seven blocks.
 pub mod Decoding
 pub mod OneResult
 pub mod Wiping

@@ -1,3 +1,4 @@
+-- One choice over the seven blocks, what names a block, a region taken apart, what wipes.
 pub mod Block
 pub mod Named
 pub mod Decoded

@@ -9,8 +9,9 @@ use lib.ListN.{length}
 use lib.Ieee.{Float}
 use lib.Ieee.Scale.{finite}
 use Rattle.reals.specs.Words.{0·0}
+use Rattle.reals.proofs.Once.{OnceLeft}
 use Rattle.dynamics.specs.Previous.{runsBack}
-use Rattle.dynamics.specs.Answer.{Outputs, silent, emitted, updated, answered, refusalOf, formRefusal, accept, lengthOf}
+use Rattle.dynamics.specs.Answer.{Outputs, silent, emitted, updated, answered, refusalOf, formRefusal, accept, lengthOf, laterRefusal}
 use Rattle.dynamics.specs.Region.{stored, Gives}
 use Rattle.dynamics.specs.Machine.{Machine, sized, lengthAnswer, startRefusal, decodeRefusal, tickRefusal, startedWords, stateRefusal, isSound, emitAnswer, updateAnswer, updatedWords, tickAnswer, admittedAnswer, admittedWords, Tick, emits, updates, answerTo, wordsAfter, run}
 use Rattle.dynamics.specs.declared.call.Answer.{Answer}
@@ -19,8 +20,9 @@ use Rattle.dynamics.proofs.Accepted.{accepted, accept-ap, accept-const,
 use Rattle.dynamics.proofs.Accepted as by
 
 -- a contract of a call that writes admits one result only
-pub one-result : {A : Type 0} {a r s : A} {ws u v : List ℕ} → Gives a ws r u → Gives a ws s v → (r ≡ s) × (u ≡ v)
-one-result g h = (g .answers ∙ sym (h .answers), g .leaves ∙ sym (h .leaves))
+pub one-result : {K : Type 0} {D : K → Type 0} {R : Type 0} {E : K → Type 0} {f : (κs : K) → D κs → R} {g : (κs : K) → D κs → List ℕ} {left : (κs : K) → E κs → List ℕ}
+    → OnceLeft {K = K} {D = D} {R = R} {E = E} (λ κs a r e. Gives (f κs a) (g κs a) r (left κs e)) left
+one-result = record { alike = λ κs a x y s t p q. (p .answers ∙ sym (q .answers), p .leaves ∙ sym (q .leaves)) }
 
 -- words of the state's length take a region's place
 stored-all : (M : Machine) (w v : List ℕ) → length v ≡ M .size → sized M w ≡ true → stored w v ≡ v
@@ -59,7 +61,7 @@ sound-decodes M w e = rw e
 
 -- once a tick's form and its time are right, tests 6 and 7 decide
 pub form-right : (M : Machine) (time : Float) (w : List ℕ) → M .accepts ≡ true → sized M w ≡ true → finite time ≡ true → tickRefusal M time w ≡ stateRefusal M time w
-unfolding tickRefusal stateRefusal
+unfolding tickRefusal stateRefusal laterRefusal
 form-right M time w s l t = simp (s, l, t)
 
 -- ---- a tick

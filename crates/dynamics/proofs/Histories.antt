@@ -8,9 +8,9 @@ use lib.Ieee.{Float}
 use lib.Ieee.Scale.{finite}
 use borrow.Author.Tests.{not-true, eq-eqb}
 use Rattle.dynamics.specs.Previous.{runsBack, previousOf, wordOfPrevious, soundPrevious}
-use Rattle.dynamics.specs.Answer.{silent, emitted, updated, refusalOf, formRefusal, timeRefusal, accept}
-use Rattle.dynamics.specs.Machine.{Machine, startRefusal, startedWords, tickRefusal, emitAnswer, updateAnswer, updatedWords, Tick, Call, starts, emits, updates, answerTo, wordsAfter, run}
-use Rattle.dynamics.specs.History.{History, started, wiped, followed, newest, previousIn, Account, refusedAfter, grown, retold, Wiping, RetoldFromWiping, AlikeFromWiping, RetoldFromStart}
+use Rattle.dynamics.specs.Answer.{Outputs, silent, emitted, updated, refusalOf, formRefusal, timeRefusal, accept}
+use Rattle.dynamics.specs.Machine.{Machine, startRefusal, startedWords, tickRefusal, emitAnswer, updateAnswer, tickAnswer, updatedWords, Tick, Call, starts, emits, updates, ticks, answerTo, wordsAfter, run}
+use Rattle.dynamics.specs.History.{History, started, wiped, followed, newest, previousIn, Account, refusedAfter, grown, retold, Wiping, RetoldFromWiping, AlikeFromWiping, AnswersWiping, RetoldFromStart}
 use Rattle.dynamics.specs.declared.call.Inputs.{Inputs}
 use Rattle.dynamics.specs.declared.previous.Previous.the-variants.{Unset, At}
 use Rattle.dynamics.proofs.Times.{previous-back, unset-back}
@@ -78,6 +78,10 @@ module _ (M : Machine) (A : Account) (Good : History → Type 0) (K : Kept M A G
       unfolding emitAnswer
       same-emit = rw same-refusal (accept-same (refusedAfter k h) _ _ _ (λ z. ap emitted (K .output k h g z)))
 
+      same-tick : tickAnswer M (k .time) (k .inputs) (A .words h) ≡ accept (refusedAfter k h) (emitted (A .output k h)) (silent (refusedAfter k h))
+      unfolding tickAnswer
+      same-tick = rw (same-refusal, K .quiet (A .words h) (k .time) (k .inputs)) (accept-same (refusedAfter k h) _ _ _ (λ z. ap emitted (K .output k h g z)))
+
       -- nothing to say, whether refused or not
       same-update : updateAnswer M (k .time) (k .inputs) (A .words h) ≡ silent (refusedAfter k h)
       unfolding updateAnswer
@@ -108,6 +112,8 @@ module _ (M : Machine) (A : Account) (Good : History → Type 0) (K : Kept M A G
     follows (emits k ∷ cs) h g = rw (same-emit k h g, follows cs h g)
     follows (updates k ∷ cs) h g =
         rw (same-update k h g, same-words k h g, follows cs (accept (refusedAfter k h) (grown (A .wipes) h k) h) (same-good k h g))
+    follows (ticks k ∷ cs) h g =
+        rw (same-tick k h g, same-words k h g, follows cs (accept (refusedAfter k h) (grown (A .wipes) h k) h) (same-good k h g))
 
   -- from a fresh start
   pub from-start : RetoldFromStart M A
@@ -127,3 +133,13 @@ module _ (M : Machine) (A : Account) (Good : History → Type 0) (K : Kept M A G
   -- so a wiping tick wipes
   pub alike : AlikeFromWiping M A
   alike v w k p q cs = from-wiping v k p cs ∙ sym (from-wiping w k q cs)
+
+-- a block whose answer is of the state after its tick: a wiping tick answers by the history that it begins
+pub answers-wiping : (M : Machine) (A : Account) (told : History → Outputs)
+    → ((k : Tick) (h : History) → A .output k h ≡ told (grown (A .wipes) h k))
+    → ((k : Tick) (w : List ℕ) → Wiping A M w k → M .output w (k .time) (k .inputs) ≡ told (wiped k))
+    → AnswersWiping M A
+unfolding emitAnswer
+answers-wiping M A told at-history on-region w k p h e =
+    sym (accepted _ _ (tickRefusal M (k .time) w) (sym (p .accepted)))
+    ∙ ap emitted (on-region k w p ∙ sym (ap (λ (b : Bool). told (cond b (wiped k) (followed h k))) e) ∙ sym (at-history k h))

@@ -3,8 +3,8 @@ pub mod Times
 pub mod Copies
 pub mod Accepted
 pub mod Calls
-pub mod Once
 pub mod Histories
 pub mod Gaps
 pub mod Opening
 pub mod Steps
+pub mod OneResult

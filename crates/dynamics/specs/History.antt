@@ -4,7 +4,7 @@ use mathlib.Core.Path.{_≡_}
 use mathlib.Core.Bool.{Bool, true, cond}
 use mathlib.Core.List.{List, [], _∷_}
 use Rattle.dynamics.specs.Answer.{Outputs, silent, emitted, timeRefusal, accept}
-use Rattle.dynamics.specs.Machine.{Machine, tickRefusal, Tick, Call, starts, emits, updates, Seen, wordsAfter, run}
+use Rattle.dynamics.specs.Machine.{Machine, tickRefusal, Tick, Call, starts, emits, updates, ticks, emitAnswer, Seen, wordsAfter, run}
 use Rattle.dynamics.specs.declared.previous.Previous.{Previous}
 use Rattle.dynamics.specs.declared.previous.Previous.the-variants.{Unset, At}
 
@@ -42,7 +42,7 @@ grown wipes h k = cond (wipes k h) (wiped k) (followed h k)
 
 module _ (A : Account) where
   -- A start ends the history, and a new one begins. An accepted emit answers for its tick as if that came next, and adds
-  -- nothing. An accepted update adds its tick. A refused call changes nothing.
+  -- nothing. An accepted update adds its tick. A whole tick answers as an emit does, and adds as an update. A refused call changes nothing.
   unfoldable pub retold : History → List Call → List Seen
   retold h [] = []
   retold h (starts ∷ cs) = record { answer = silent 0; left = A .words started } ∷ retold started cs
@@ -51,6 +51,9 @@ module _ (A : Account) where
   retold h (updates k ∷ cs) =
       let h' = accept (refusedAfter k h) (grown (A .wipes) h k) h in
       record { answer = silent (refusedAfter k h); left = A .words h' } ∷ retold h' cs
+  retold h (ticks k ∷ cs) =
+      let h' = accept (refusedAfter k h) (grown (A .wipes) h k) h in
+      record { answer = accept (refusedAfter k h) (emitted (A .output k h)) (silent (refusedAfter k h)); left = A .words h' } ∷ retold h' cs
 
   -- a wiping tick on any region: accepted, and it wipes
   pub record Wiping (M : Machine) (w : List ℕ) (k : Tick) : Type 0 where
@@ -67,6 +70,11 @@ module _ (M : Machine) (A : Account) where
   abbrev pub AlikeFromWiping : Type 0
   AlikeFromWiping = (v w : List ℕ) (k : Tick) → Wiping A M v k → Wiping A M w k → (cs : List Call)
       → run M (wordsAfter M v (updates k)) cs ≡ run M (wordsAfter M w (updates k)) cs
+
+  -- the wiping tick's own answer: whatever the region holds, it is the same as after a history that the tick wipes
+  -- (not of a controller, whose emit answers from the integrator before its tick)
+  abbrev pub AnswersWiping : Type 0
+  AnswersWiping = (w : List ℕ) (k : Tick) → Wiping A M w k → (h : History) → A .wipes k h ≡ true → emitAnswer M (k .time) (k .inputs) w ≡ emitted (A .output k h)
 
   -- two such regions, which differ
   pub record TwoWiped : Type 0 where

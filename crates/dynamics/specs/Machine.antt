@@ -7,7 +7,7 @@ use lib.ListN.{length}
 use lib.Ieee.{Float, binary64, fits}
 use lib.Ieee.Scale.{finite}
 use Rattle.dynamics.specs.Previous.{runsBack}
-use Rattle.dynamics.specs.Answer.{Outputs, silent, emitted, updated, answered, refusalOf, skipped, formRefusal, accept, lengthOf}
+use Rattle.dynamics.specs.Answer.{Outputs, silent, emitted, updated, answered, refusalOf, skipped, formRefusal, laterRefusal, accept, lengthOf}
 use Rattle.dynamics.specs.Region.{stored}
 use Rattle.dynamics.specs.declared.call.Answer.{Answer}
 use Rattle.dynamics.specs.declared.call.Inputs.{Inputs}
@@ -51,7 +51,7 @@ module _ (M : Machine) where
 
   -- tests 6 and 7 alone: what is left of a tick's tests once its form and its time are right
   unfoldable pub stateRefusal : Float → List ℕ → ℕ
-  stateRefusal time w = refusalOf skipped skipped skipped skipped skipped (M .decodes w) (not (runsBack time (M .previous w)))
+  stateRefusal time w = laterRefusal time (M .decodes w) (M .previous w)
 
   -- ---- what a call gives
   unfoldable pub lengthAnswer : Length
@@ -95,7 +95,7 @@ pub record Tick : Type 0 where
 
 pub data Call : Type 0 where
   starts : Call
-  emits updates : Tick → Call
+  emits updates ticks : Tick → Call
 
 -- an answer, and the region that the call leaves
 pub record Seen : Type 0 where
@@ -107,11 +107,13 @@ module _ (M : Machine) where
   answerTo w starts = silent (startRefusal M w)
   answerTo w (emits k) = emitAnswer M (k .time) (k .inputs) w
   answerTo w (updates k) = updateAnswer M (k .time) (k .inputs) w
+  answerTo w (ticks k) = tickAnswer M (k .time) (k .inputs) w
 
   unfoldable pub wordsAfter : List ℕ → Call → List ℕ
   wordsAfter w starts = startedWords M w
   wordsAfter w (emits k) = w
   wordsAfter w (updates k) = updatedWords M (k .time) (k .inputs) w
+  wordsAfter w (ticks k) = updatedWords M (k .time) (k .inputs) w
 
   unfoldable pub run : List ℕ → List Call → List Seen
   run w [] = []

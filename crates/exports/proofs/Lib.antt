@@ -1,3 +1,4 @@
+-- Laws of what crosses between words and blocks.
 pub mod Answers
 pub mod Zeros
 pub mod Naming

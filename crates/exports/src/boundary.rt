@@ -59,7 +59,7 @@ pub fn length_words(l: Length) -> LengthWords
 }
 
 // What a tick brings to one block.
-pub fn tick_of(time: u64, first: u64, second: u64, third: u64) -> Tick
+pub(crate) fn tick_of(time: u64, first: u64, second: u64, third: u64) -> Tick
     ensures { λ r. ⌜ Brings time first second third r ⌝ }
 {
     Tick {

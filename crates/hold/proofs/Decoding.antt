@@ -5,8 +5,10 @@ use mathlib.Core.List.{List, []}
 use Prim.Native.Nat.{ℕ}
 use native.Mathlib.Omega.{arith}
 use lib.ListN.{length}
-use lib.Ieee.{Float, ofBits}
-use Rattle.dynamics.specs.Previous.{previousOf}
+use lib.Dec.{T}
+use lib.Ieee.{Float, binary64, fits, ofBits}
+use Rattle.reals.proofs.Words.{real-word, flag-back}
+use Rattle.dynamics.specs.Previous.{previousOf, wordOfPrevious}
 use Rattle.dynamics.specs.Region.{Gives}
 use Rattle.dynamics.specs.Machine.{Machine, startRefusal, tickRefusal, startedWords, decodeRefusal}
 use Rattle.dynamics.specs.Stepped.{steppedMachine}
@@ -43,6 +45,11 @@ decoded = record {
 pub counted : (s : State) → length (wordsOf s) ≡ 3
 unfolding wordsOf
 counted s = refl
+
+-- a state of f64 numbers is read back as it was stored
+pub read-back : (s : State) → T (fits binary64 (s .timer)) → previousOf (wordOfPrevious (s .previous)) ≡ s .previous → stateOf (wordsOf s) ≡ s
+unfolding stateOf wordsOf
+read-back s timer time = simp (real-word (s .timer) timer, time, flag-back)
 
 -- a fresh one is read back with its previous time unset
 pub fresh-unset : stateOf (wordsOf initial) .previous ≡ Unset

@@ -1,1 +1,3 @@
+-- Laws that both holds share.
 pub mod Decoding
+pub mod OneResult

@@ -1,1 +1,2 @@
+-- What both holds share.
 pub mod Hold

@@ -1,3 +1,4 @@
+-- Laws of the two forms of lines.
 pub mod Forms
 pub mod Items
 pub mod Kept

@@ -13,7 +13,7 @@ use Rattle.blocks.specs.declared.named.Named.the-variants.{Nothing}
 use Rattle.lines.specs.declared.values.Values.{Values}
 use Rattle.lines.specs.Forms.{numberFor, formAt}
 use Rattle.lines.specs.Lines.{namedWith, firstOf}
-use Rattle.lines.specs.Values.{itemsFrom, Words, said, malformed, wordsOf, laidOut}
+use Rattle.lines.specs.Values.{itemsFrom, Words, said, malformed, wordsSaid, laidOut}
 use Rattle.lines.proofs.Items.{first-item, items-short}
 use Rattle.lines.proofs.Words.{Counts, counted}
 
@@ -43,22 +43,22 @@ with-room k (said ws) c e = simp length-append (omega arith)
 with-room k malformed c e = let z : _≡_ {A = ℕ} 0 1 = cc in absurd (omega arith)
 
 pub settings-room : (settings : List ℕ) (items : List (List ℕ)) (v : Values)
-    → v ≡ laidOut (wordsOf settings items)
+    → v ≡ laidOut (wordsSaid settings items)
     → v .ok ≡ true
     → (n : ℕ)
     → n ≡ length settings
     → n ≤ length (v .words)
 settings-room settings items v holds e n is =
-    rw (is, holds) (with-room (length settings) (wordsOf settings items) (counted settings items) (rw holds at e))
+    rw (is, holds) (with-room (length settings) (wordsSaid settings items) (counted settings items) (rw holds at e))
 
 module _
     (line : List ℕ) (end number : ℕ) (v : Values)
     (short : length line ≤ 255)
     (ends : end ≡ 0 + upTo (code " ") (drop 0 line))
     (numbers : number ≡ numberFor (take end line))
-    (holds : v ≡ laidOut (wordsOf (formAt number .settings) (itemsFrom line (end + 1))))
+    (holds : v ≡ laidOut (wordsSaid (formAt number .settings) (itemsFrom line (end + 1))))
   where
-    by-parts : firstOf line ≡ namedWith number (wordsOf (formAt number .settings) (itemsFrom line (end + 1)))
+    by-parts : firstOf line ≡ namedWith number (wordsSaid (formAt number .settings) (itemsFrom line (end + 1)))
     unfolding firstOf
     by-parts =
         let size : upTo (code " ") line ≡ end = omega arith in
@@ -67,11 +67,11 @@ module _
 
     pub first-none : v .ok ≡ false → Nothing ≡ firstOf line
     first-none e =
-        with-none number (wordsOf (formAt number .settings) (itemsFrom line (end + 1))) (rw holds at e) ∙ sym by-parts
+        with-none number (wordsSaid (formAt number .settings) (itemsFrom line (end + 1))) (rw holds at e) ∙ sym by-parts
 
     pub first-named : v .ok ≡ true → (n : ℕ) → n ≡ length (formAt number .settings) → namedBy number (take n (v .words)) ≡ firstOf line
     first-named e n is =
         let settings = formAt number .settings in
         let items = itemsFrom line (end + 1) in
-        rw (holds, is) (with-words number (length settings) (wordsOf settings items) (counted settings items) (rw holds at e))
+        rw (holds, is) (with-words number (length settings) (wordsSaid settings items) (counted settings items) (rw holds at e))
         ∙ sym by-parts

@@ -8,12 +8,12 @@ use Rattle.blocks.specs.declared.block.Tick.{Tick}
 use Rattle.lines.specs.declared.values.Values.{Values}
 use Rattle.lines.specs.declared.later.Later.{Later}
 use Rattle.lines.specs.Lines.{tickClasses, tickWith, laterWith, laterOf}
-use Rattle.lines.specs.Values.{itemsOf, Words, said, malformed, wordsOf, laidOut}
+use Rattle.lines.specs.Values.{itemsOf, Words, said, malformed, wordsSaid, laidOut}
 use Rattle.lines.proofs.Items.{items-long}
 
 -- a line too long is malformed
-pub tick-long : (b : Block) (line : List ℕ) → 255 < length line → malformed ≡ wordsOf (tickClasses b) (itemsOf line)
-unfolding wordsOf
+pub tick-long : (b : Block) (line : List ℕ) → 255 < length line → malformed ≡ wordsSaid (tickClasses b) (itemsOf line)
+unfolding wordsSaid
 tick-long b line h = rw (items-long line h)
 
 -- zeros behind words are as no words
@@ -36,6 +36,6 @@ laid-out (said ws) = simp padded
 laid-out malformed = refl
 
 pub later-heard : (b : Block) (line : List ℕ) (v : Values) (t : Tick)
-    → v ≡ laidOut (wordsOf (tickClasses b) (itemsOf line)) → t ≡ tickWith (v .words) → record { ok = v .ok; tick = t } ≡ laterOf b line
+    → v ≡ laidOut (wordsSaid (tickClasses b) (itemsOf line)) → t ≡ tickWith (v .words) → record { ok = v .ok; tick = t } ≡ laterOf b line
 unfolding laterOf
-later-heard b line v t e is = rw (is, e) (laid-out (wordsOf (tickClasses b) (itemsOf line)))
+later-heard b line v t e is = rw (is, e) (laid-out (wordsSaid (tickClasses b) (itemsOf line)))

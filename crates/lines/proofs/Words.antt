@@ -13,7 +13,7 @@ use Rattle.text.specs.declared.word.Item.{Item}
 use Rattle.text.specs.declared.word.Item.the-variants.{Word, Bad}
 use Rattle.text.specs.Stretches.{upTo}
 use Rattle.lines.specs.declared.values.Values.{Values}
-use Rattle.lines.specs.Values.{itemOf, itemsFrom, Words, said, malformed, _before_, wordsOf, laidOut}
+use Rattle.lines.specs.Values.{itemOf, itemsFrom, Words, said, malformed, _before_, wordsSaid, laidOut}
 use Rattle.lines.proofs.Items.{first-item, no-item}
 
 -- ---- items say as many words as classes are asked, if they say any
@@ -22,12 +22,12 @@ abbrev pub Counts : ℕ → Words → Type 0
 Counts n (said ws) = length ws ≡ n
 Counts n malformed = Unit {0}
 
-pub counted : (classes : List ℕ) (items : List (List ℕ)) → Counts (length classes) (wordsOf classes items)
-unfolding wordsOf
+pub counted : (classes : List ℕ) (items : List (List ℕ)) → Counts (length classes) (wordsSaid classes items)
+unfolding wordsSaid
 counted [] [] = refl
 counted [] (i ∷ is) = tt
 counted (c ∷ cs) [] = tt
-counted (c ∷ cs) (i ∷ is) = more (itemOf c i) (wordsOf cs is) (counted cs is)
+counted (c ∷ cs) (i ∷ is) = more (itemOf c i) (wordsSaid cs is) (counted cs is)
   where
     more : (x : Item) (w : Words) → Counts (length cs) w → Counts (suc (length cs)) (x before w)
     more (Word v) (said ws) h = ap suc h
@@ -47,8 +47,8 @@ zeros-left (suc n) (suc k) = rw suc-sub-suc (zeros-left n k)
 
 -- into zeros
 pub filled-zeros : (classes : List ℕ) (items : List (List ℕ)) → length classes ≤ 16
-    → filled (replicate 16 0) 0 (wordsOf classes items) ≡ laidOut (wordsOf classes items)
-filled-zeros classes items h = all (wordsOf classes items) (counted classes items)
+    → filled (replicate 16 0) 0 (wordsSaid classes items) ≡ laidOut (wordsSaid classes items)
+filled-zeros classes items h = all (wordsSaid classes items) (counted classes items)
   where
     all : (w : Words) → Counts (length classes) w → filled (replicate 16 0) 0 w ≡ laidOut w
     all (said ws) n = rw (sets-eq ws (replicate 16 0) 0 (omega arith), zero-add, zeros-left 16 (length ws))
@@ -57,8 +57,8 @@ filled-zeros classes items h = all (wordsOf classes items) (counted classes item
 -- a class is left, and the item that starts at `next`
 module _ (classes line w : List ℕ) (j next : ℕ) (left : j < length classes) where
   -- there is none
-  pub filled-short : length line < next → filled w j (wordsOf (drop j classes) (itemsFrom line next)) ≡ laidOut malformed
-  unfolding wordsOf
+  pub filled-short : length line < next → filled w j (wordsSaid (drop j classes) (itemsFrom line next)) ≡ laidOut malformed
+  unfolding wordsSaid
   filled-short h = rw (drop-cons classes j 0 left, no-item line next h)
 
   module _ (within : next ≤ length line) (end : ℕ) (ends : end ≡ next + upTo (code " ") (drop next line)) where
@@ -71,10 +71,10 @@ module _ (classes line w : List ℕ) (j next : ℕ) (left : j < length classes) 
 
     -- it says a word
     pub filled-word : (v : ℕ) → itemOf (getD classes j 0) (take (end - next) (drop next line)) ≡ Word v
-        → filled w j (wordsOf (drop j classes) (itemsFrom line next))
-        ≡ filled (set w j v) (j + 1) (wordsOf (drop (j + 1) classes) (itemsFrom line (end + 1)))
-    unfolding wordsOf
-    filled-word v e = rw (drop-cons classes j 0 left, item-to, e, add-one j) (put (wordsOf (drop (suc j) classes) (itemsFrom line (end + 1))))
+        → filled w j (wordsSaid (drop j classes) (itemsFrom line next))
+        ≡ filled (set w j v) (j + 1) (wordsSaid (drop (j + 1) classes) (itemsFrom line (end + 1)))
+    unfolding wordsSaid
+    filled-word v e = rw (drop-cons classes j 0 left, item-to, e, add-one j) (put (wordsSaid (drop (suc j) classes) (itemsFrom line (end + 1))))
       where
         put : (x : Words) → filled w j (Word v before x) ≡ filled (set w j v) (suc j) x
         put (said ws) = refl
@@ -82,18 +82,18 @@ module _ (classes line w : List ℕ) (j next : ℕ) (left : j < length classes) 
 
     -- it does not
     pub filled-bad : itemOf (getD classes j 0) (take (end - next) (drop next line)) ≡ Bad
-        → filled w j (wordsOf (drop j classes) (itemsFrom line next)) ≡ laidOut malformed
-    unfolding wordsOf
+        → filled w j (wordsSaid (drop j classes) (itemsFrom line next)) ≡ laidOut malformed
+    unfolding wordsSaid
     filled-bad e = rw (drop-cons classes j 0 left, item-to, e)
 
 -- no class is left
 module _ (classes line w : List ℕ) (j next : ℕ) (none : length classes ≤ j) where
   -- an item is
-  pub filled-over : next ≤ length line → filled w j (wordsOf (drop j classes) (itemsFrom line next)) ≡ laidOut malformed
-  unfolding wordsOf
+  pub filled-over : next ≤ length line → filled w j (wordsSaid (drop j classes) (itemsFrom line next)) ≡ laidOut malformed
+  unfolding wordsSaid
   filled-over h = rw (drop-of-length-le classes none, first-item line next h)
 
   -- nor an item
-  pub filled-end : length line < next → filled w j (wordsOf (drop j classes) (itemsFrom line next)) ≡ record { ok = true; words = w }
-  unfolding wordsOf
+  pub filled-end : length line < next → filled w j (wordsSaid (drop j classes) (itemsFrom line next)) ≡ record { ok = true; words = w }
+  unfolding wordsSaid
   filled-end h = rw (drop-of-length-le classes none, no-item line next h)

@@ -12,7 +12,7 @@ use Rattle.blocks.specs.declared.named.Named.{Named}
 use Rattle.blocks.specs.declared.named.Named.the-variants.{Nothing}
 use Rattle.lines.specs.declared.later.Later.{Later}
 use Rattle.lines.specs.Forms.{numberFor, formAt, formOf}
-use Rattle.lines.specs.Values.{itemsOf, Words, said, malformed, wordsOf}
+use Rattle.lines.specs.Values.{itemsOf, Words, said, malformed, wordsSaid}
 
 -- ---- the first line: a block's name, then its settings
 
@@ -22,7 +22,7 @@ namedWith n malformed = Nothing
 
 abbrev pub namedIn : List (List ℕ) → Named
 namedIn [] = Nothing
-namedIn (name ∷ settings) = namedWith (numberFor name) (wordsOf (formAt (numberFor name) .settings) settings)
+namedIn (name ∷ settings) = namedWith (numberFor name) (wordsSaid (formAt (numberFor name) .settings) settings)
 
 unfoldable pub firstOf : List ℕ → Named
 firstOf line = namedIn (itemsOf line)
@@ -45,4 +45,4 @@ laterWith (said ws) = record { ok = true; tick = tickWith ws }
 laterWith malformed = record { ok = false; tick = tickWith [] }
 
 unfoldable pub laterOf : Block → List ℕ → Later
-laterOf b line = laterWith (wordsOf (tickClasses b) (itemsOf line))
+laterOf b line = laterWith (wordsSaid (tickClasses b) (itemsOf line))

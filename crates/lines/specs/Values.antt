@@ -41,11 +41,11 @@ Word w before malformed = malformed
 Bad before ws = malformed
 
 -- the words of items, one of each class
-unfoldable pub wordsOf : (classes : List ℕ) (items : List (List ℕ)) → Words
-wordsOf [] [] = said []
-wordsOf [] (i ∷ is) = malformed
-wordsOf (c ∷ cs) [] = malformed
-wordsOf (c ∷ cs) (i ∷ is) = itemOf c i before wordsOf cs is
+unfoldable pub wordsSaid : (classes : List ℕ) (items : List (List ℕ)) → Words
+wordsSaid [] [] = said []
+wordsSaid [] (i ∷ is) = malformed
+wordsSaid (c ∷ cs) [] = malformed
+wordsSaid (c ∷ cs) (i ∷ is) = itemOf c i before wordsSaid cs is
 
 -- as the code has them: sixteen words, those that there are not being 0
 abbrev pub laidOut : Words → Values

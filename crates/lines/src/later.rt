@@ -7,7 +7,7 @@ use blocks::Block;
 use blocks::Tick;
 use reals::real_of;
 ghost use mathlib.Core.Path.{_≡_};
-ghost use Rattle.lines.specs.Values.{wordsOf, laidOut, itemsOf};
+ghost use Rattle.lines.specs.Values.{wordsSaid, laidOut, itemsOf};
 ghost use Rattle.lines.specs.Lines.{tickClasses, tickWith, laterOf};
 
 // A tick, or that the line is malformed; its tick is of zeros then.
@@ -18,7 +18,7 @@ pub struct Later {
 
 // The words of a later line: the time, then the inputs.
 fn read_tick(block: Block, line: &[u8]) -> Values
-    ensures { λ r. ⌜ r ≡ laidOut (wordsOf (tickClasses block) (itemsOf (now (line .entry)))) ⌝ }
+    ensures { λ r. ⌜ r ≡ laidOut (wordsSaid (tickClasses block) (itemsOf (now (line .entry)))) ⌝ }
 {
     if LONGEST < line.len() {
         return no_values();

@@ -7,7 +7,7 @@ use text::read_word;
 ghost use mathlib.Core.Path.{_≡_};
 ghost use Prim.Native.Nat.{_≤_};
 ghost use lib.ListN.{length};
-ghost use Rattle.lines.specs.Values.{itemOf, itemsFrom, malformed, wordsOf, laidOut};
+ghost use Rattle.lines.specs.Values.{itemOf, itemsFrom, malformed, wordsSaid, laidOut};
 
 // Whether the items are as asked, and their words, those that there are not being 0.
 pub struct Values {
@@ -41,7 +41,7 @@ pub(crate) fn no_values() -> Values
 // The items of a line from `at` on, one of each class and no more.
 pub(crate) fn read_values(line: &[u8], at: usize, classes: &[u8]) -> Values
     requires { ⌜ length (now classes) ≤ 16 ⌝ }
-    ensures { λ r. ⌜ r ≡ laidOut (wordsOf (now (classes .entry)) (itemsFrom (now (line .entry)) at)) ⌝ }
+    ensures { λ r. ⌜ r ≡ laidOut (wordsSaid (now (classes .entry)) (itemsFrom (now (line .entry)) at)) ⌝ }
 {
     let mut words = [0u64; 16];
     let mut next = at;

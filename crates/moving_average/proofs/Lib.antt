@@ -1,3 +1,4 @@
+-- Laws of the ring, its walks and its stores, and of the block.
 pub mod Places
 pub mod Walks
 pub mod Stores

@@ -38,7 +38,7 @@ pruned r g cutoff = let k = expiredOf r g cutoff in record { capacity = g .capac
 unfoldable pub isCrowded : List ℕ → Ring → Float → Float → Bool
 isCrowded r g resolution t =
     leb (g .capacity) (g .count)
-    || leb 2 (g .count) && lt (t ⊖ timeAt r g (g .count - 2)) (nearest 2 1 ⊗ resolution)
+    || (leb 2 (g .count) && lt (t ⊖ timeAt r g (g .count - 2)) (nearest 2 1 ⊗ resolution))
 
 -- after the last point, and in its place
 abbrev pub after : Ring → Place

@@ -6,8 +6,10 @@ use Prim.Native.Nat.{ℕ}
 use native.Mathlib.Omega.{arith}
 use lib.ListN.{length}
 use borrow.Author.Tests.{ne-eqb}
-use lib.Ieee.{ofBits}
-use Rattle.dynamics.specs.Previous.{previousOf}
+use lib.Dec.{T}
+use lib.Ieee.{binary64, fits, ofBits}
+use Rattle.reals.proofs.Words.{real-word, flag-back}
+use Rattle.dynamics.specs.Previous.{previousOf, wordOfPrevious}
 use Rattle.dynamics.specs.Region.{stored}
 use Rattle.dynamics.specs.declared.previous.Previous.the-variants.{Unset}
 use Rattle.dynamics.proofs.Opening.{Enum}
@@ -49,6 +51,17 @@ counted Pi false s = refl
 counted Pd reset s = refl
 counted Pid true s = refl
 counted Pid false s = refl
+
+-- what a type stores of f64 numbers is read back as it was stored
+module _ (s : State) (integrator : T (fits binary64 (s .integrator))) (filter : T (fits binary64 (s .filter))) (time : previousOf (wordOfPrevious (s .previous)) ≡ s .previous) where
+  pub read-back : (t : ControllerType) (reset : Bool) → wordsOf t reset (stateOf t reset (wordsOf t reset s)) ≡ wordsOf t reset s
+  unfolding stateOf wordsOf
+  read-back P reset = refl
+  read-back Pi true = simp (real-word (s .integrator) integrator, time, flag-back)
+  read-back Pi false = simp (real-word (s .integrator) integrator, time)
+  read-back Pd reset = simp (real-word (s .filter) filter, time)
+  read-back Pid true = simp (real-word (s .integrator) integrator, real-word (s .filter) filter, time, flag-back)
+  read-back Pid false = simp (real-word (s .integrator) integrator, real-word (s .filter) filter, time)
 
 -- a fresh one is read back with its previous time unset
 pub fresh-unset : (t : ControllerType) (reset : Bool) (b : ControllerConfig) → stateOf t reset (wordsOf t reset (initial b)) .previous ≡ Unset

@@ -1,3 +1,4 @@
+-- Laws of the controllers over a region.
 pub mod Decoding
 pub mod Steps
 pub mod Wiping

@@ -1,2 +1,3 @@
+-- The controllers over a region, then their account.
 pub mod Pid
 pub mod Account

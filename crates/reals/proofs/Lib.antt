@@ -9,3 +9,5 @@ pub mod Cut
 pub mod Whole
 pub mod Counts
 pub mod Meaning
+pub mod Once
+pub mod OneResult

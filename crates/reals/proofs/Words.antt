@@ -70,6 +70,10 @@ canonical-is w h = go (isNan (realOf w)) refl
     go true e = ap wordOf (nan-of (realOf w) e) ∙ word-nan
     go false e = word-real w h (subst (λ (z : Bool). T (not z)) (sym e) tt)
 
+-- so every real is stored as a canonical word
+pub stored-canonical : (x : Float) → T (fits binary64 x) → canonicalWord (wordOf x) ≡ wordOf x
+stored-canonical x h = sym (canonical-is (wordOf x) (word-lt x h)) ∙ ap wordOf (real-word x h)
+
 pub flag-back : (b : Bool) → flagOf (wordOfFlag b) ≡ b
 flag-back true = refl
 flag-back false = refl

@@ -19,7 +19,7 @@ use Rattle.replay.specs.Answer.{storedAt}
 use Rattle.replay.specs.Call.{tickAt}
 use Rattle.replay.specs.Replay.{lengthAt, Replayed}
 use Rattle.replay.specs.Region.{Filled, PutIn}
-use Rattle.replay.specs.Compare.{before, answersAt, Laid, emits, updates, ticks, Agrees, Shown}
+use Rattle.replay.specs.Compare.{before, answersAt, Laid, emitAgrees, updateAgrees, tickAgrees, Agrees, Shown}
 
 -- what is not so has no consequence to show
 pub never-true : (P : Type 0) → false ≡ true → P
@@ -28,19 +28,19 @@ never-true P e = let z : _≡_ {A = ℕ} 0 1 = cc in absurd (omega arith)
 -- a whole tick on the words that were put in again
 pub ticked-afresh : (block : Block) (tick : Tick) (pairs : Bool) (words : List ℕ) (at n next : ℕ) (r : Next) (region expected : List ℕ) (stored : Stored) (t : Bool)
     → r ≡ At next → PutIn pairs words at (replicate n 0) r region
-    → t ≡ ticks block tick region stored expected → t ≡ true
-    → ticks block tick (before pairs words at n) stored expected ≡ true
+    → t ≡ tickAgrees block tick region stored expected → t ≡ true
+    → tickAgrees block tick (before pairs words at n) stored expected ≡ true
 ticked-afresh block tick pairs words at n next r region expected stored t e p ticked holds =
     let f : Filled pairs words at (replicate n 0) next region = subst (λ (s : Next). PutIn pairs words at (replicate n 0) s region) e p in
-    ap (λ (l : List ℕ). ticks block tick l stored expected) (sym (f .holds)) ∙ sym ticked ∙ holds
+    ap (λ (l : List ℕ). tickAgrees block tick l stored expected) (sym (f .holds)) ∙ sym ticked ∙ holds
 
 -- all that a comparison has seen
 pub agrees : (block : Block) (tick : Tick) (pairs : Bool) (words : List ℕ) (at n m answers : ℕ) (region expected : List ℕ) (stored : Stored) (e u : Bool)
     → Laid pairs words at n answers region expected
     → stored ≡ storedAt words answers
-    → e ≡ emits block tick region stored → e ≡ true
-    → u ≡ updates block tick region stored expected → u ≡ true
-    → ticks block tick (before pairs words at m) stored expected ≡ true → m ≡ n
+    → e ≡ emitAgrees block tick region stored → e ≡ true
+    → u ≡ updateAgrees block tick region stored expected → u ≡ true
+    → tickAgrees block tick (before pairs words at m) stored expected ≡ true → m ≡ n
     → Agrees block tick pairs words at n
 agrees block tick pairs words at n m answers region expected stored e u l s emitted e-holds updated u-holds ticked length =
     let old = l .old in

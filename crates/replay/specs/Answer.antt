@@ -25,11 +25,11 @@ answersWith a refusal real boolean warning =
     && (eqb (wordOfFlag (a .boolean)) boolean && eqb (wordOfFlag (a .warning)) warning)
 
 -- an emit hands out no warning, an update its warning alone, a whole tick both
-abbrev pub emitted : Answer → Stored → Bool
-emitted a s = answersWith a (s .refusal) (s .real) (s .boolean) 0
+abbrev pub meetsEmit : Answer → Stored → Bool
+meetsEmit a s = answersWith a (s .refusal) (s .real) (s .boolean) 0
 
-abbrev pub updated : Answer → Stored → Bool
-updated a s = answersWith a (s .«update_refusal») 0 0 (s .warning)
+abbrev pub meetsUpdate : Answer → Stored → Bool
+meetsUpdate a s = answersWith a (s .«update_refusal») 0 0 (s .warning)
 
-abbrev pub ticked : Answer → Stored → Bool
-ticked a s = answersWith a (s .refusal) (s .real) (s .boolean) (s .warning)
+abbrev pub meetsTick : Answer → Stored → Bool
+meetsTick a s = answersWith a (s .refusal) (s .real) (s .boolean) (s .warning)

@@ -14,7 +14,7 @@ use Rattle.replay.specs.declared.compare.Verdict.{Verdict}
 use Rattle.replay.specs.declared.compare.Verdict.the-variants as verdict
 use Rattle.replay.specs.declared.region.Next.{Next}
 use Rattle.replay.specs.declared.region.Next.the-variants.{At, Bad}
-use Rattle.replay.specs.Answer.{storedAt, emitted, updated, ticked}
+use Rattle.replay.specs.Answer.{storedAt, meetsEmit, meetsUpdate, meetsTick}
 use Rattle.replay.specs.Region.{filled, ending}
 
 -- the words from before the call on a region of n words, where its answers start, and the words from after it
@@ -43,26 +43,26 @@ module _ (pairs : Bool) (words : List ℕ) (at n : ℕ) where
 -- ---- what the block's machine gives, compared with what is stored
 
 module _ (block : Block) (tick : Tick) (region : List ℕ) (stored : Stored) where
-  unfoldable pub emits : Bool
-  emits = emitted (emitAnswer (machineOf block) (tick .time) (inputsOf tick) region) stored
+  unfoldable pub emitAgrees : Bool
+  emitAgrees = meetsEmit (emitAnswer (machineOf block) (tick .time) (inputsOf tick) region) stored
 
-  unfoldable pub updates : List ℕ → Bool
-  updates expected =
-      updated (updateAnswer (machineOf block) (tick .time) (inputsOf tick) region) stored
+  unfoldable pub updateAgrees : List ℕ → Bool
+  updateAgrees expected =
+      meetsUpdate (updateAnswer (machineOf block) (tick .time) (inputsOf tick) region) stored
       && sameList (updatedWords (machineOf block) (tick .time) (inputsOf tick) region) expected
 
-  unfoldable pub ticks : List ℕ → Bool
-  ticks expected =
-      ticked (tickAnswer (machineOf block) (tick .time) (inputsOf tick) region) stored
+  unfoldable pub tickAgrees : List ℕ → Bool
+  tickAgrees expected =
+      meetsTick (tickAnswer (machineOf block) (tick .time) (inputsOf tick) region) stored
       && sameList (updatedWords (machineOf block) (tick .time) (inputsOf tick) region) expected
 
 module _ (block : Block) (tick : Tick) (pairs : Bool) (words : List ℕ) (at n : ℕ) where
   -- the words are a stored call on a region of n words, and the block gives all that is stored
   pub record Agrees : Type 0 where
     pub whole : length words ≡ ending pairs words (answersAt pairs words at n + 5) (before pairs words at n)
-    pub by-emit : emits block tick (before pairs words at n) (storedAt words (answersAt pairs words at n)) ≡ true
-    pub by-update : updates block tick (before pairs words at n) (storedAt words (answersAt pairs words at n)) (after pairs words at n) ≡ true
-    pub by-tick : ticks block tick (before pairs words at n) (storedAt words (answersAt pairs words at n)) (after pairs words at n) ≡ true
+    pub by-emit : emitAgrees block tick (before pairs words at n) (storedAt words (answersAt pairs words at n)) ≡ true
+    pub by-update : updateAgrees block tick (before pairs words at n) (storedAt words (answersAt pairs words at n)) (after pairs words at n) ≡ true
+    pub by-tick : tickAgrees block tick (before pairs words at n) (storedAt words (answersAt pairs words at n)) (after pairs words at n) ≡ true
 
   -- only of such a call is it said that all is as stored
   abbrev pub Shown : Verdict → Type 0

@@ -1,3 +1,4 @@
+-- What a stored call is, and what it means to be met.
 pub mod Answer
 pub mod Call
 pub mod Compare

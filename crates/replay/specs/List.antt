@@ -8,14 +8,14 @@ use Rattle.replay.specs.declared.compare.Verdict.{Verdict}
 use Rattle.replay.specs.declared.compare.Verdict.the-variants as verdict
 use Rattle.replay.specs.declared.list.Tally.{Tally}
 use Rattle.replay.specs.Line.{WordsOf}
-use Rattle.replay.specs.Replay.{Holds}
+use Rattle.replay.specs.Replay.{CallHolds}
 
 -- the line is words, and the block agrees with the call that they store
 pub record LineHolds (form : Form) (line : List ℕ) : Type 0 where
   pub words : List ℕ
   pub count : ℕ
   pub reads : WordsOf line count words
-  pub holds : Holds form (take count words)
+  pub holds : CallHolds form (take count words)
 
 -- only of such a line is it said that all is as stored
 abbrev pub LineShown : Form → List ℕ → Verdict → Type 0

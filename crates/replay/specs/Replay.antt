@@ -17,14 +17,14 @@ abbrev pub lengthAt : Form → ℕ
 lengthAt form = form .settings + form .inputs + 1
 
 -- the words name a block, and it agrees with the call that they store
-pub record Holds (form : Form) (words : List ℕ) : Type 0 where
+pub record CallHolds (form : Form) (words : List ℕ) : Type 0 where
   pub block : Block
   pub names : namedBy (form .number) (take (form .settings) words) ≡ named.Block block
   pub agrees : Agrees block (tickAt words (form .settings) (form .inputs)) (form .pairs) words (lengthAt form + 1) (getD words (lengthAt form) 0)
 
 -- only of such words is it said that all is as stored
 abbrev pub Replayed : Form → List ℕ → Verdict → Type 0
-Replayed form words verdict.Same = Holds form words
+Replayed form words verdict.Same = CallHolds form words
 Replayed form words verdict.Emit = Unit {0}
 Replayed form words verdict.Update = Unit {0}
 Replayed form words verdict.Tick = Unit {0}

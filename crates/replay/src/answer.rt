@@ -6,7 +6,7 @@ use reals::word_of_flag;
 ghost use mathlib.Core.Path.{_≡_};
 ghost use Prim.Native.Nat.{_+_, _≤_};
 ghost use lib.ListN.{length};
-ghost use Rattle.replay.specs.Answer.{answersWith, storedAt, emitted, updated, ticked};
+ghost use Rattle.replay.specs.Answer.{answersWith, storedAt, meetsEmit, meetsUpdate, meetsTick};
 
 // How many words they are.
 pub const STORED_LEN: usize = 5;
@@ -45,21 +45,21 @@ fn answers_with(a: Answer, refusal: u64, real: u64, boolean: u64, warning: u64) 
 
 // An emit hands out no warning.
 pub fn is_emitted(a: Answer, s: Stored) -> bool
-    ensures { λ r. ⌜ r ≡ emitted a s ⌝ }
+    ensures { λ r. ⌜ r ≡ meetsEmit a s ⌝ }
 {
     answers_with(a, s.refusal, s.real, s.boolean, 0)
 }
 
 // An update hands out its warning alone.
 pub fn is_updated(a: Answer, s: Stored) -> bool
-    ensures { λ r. ⌜ r ≡ updated a s ⌝ }
+    ensures { λ r. ⌜ r ≡ meetsUpdate a s ⌝ }
 {
     answers_with(a, s.update_refusal, 0, 0, s.warning)
 }
 
 // A whole tick hands out both.
 pub fn is_ticked(a: Answer, s: Stored) -> bool
-    ensures { λ r. ⌜ r ≡ ticked a s ⌝ }
+    ensures { λ r. ⌜ r ≡ meetsTick a s ⌝ }
 {
     answers_with(a, s.refusal, s.real, s.boolean, s.warning)
 }

@@ -16,7 +16,7 @@ ghost use mathlib.Core.Path.{_≡_};
 ghost use mathlib.Core.Bool.{true};
 ghost use lib.ListN.{length};
 ghost use Rattle.replay.specs.Compare.{before, LaidOut, Shown};
-ghost use Rattle.replay.specs.Compare.{emits as Compare·emits, updates as Compare·updates, ticks as Compare·ticks};
+ghost use Rattle.replay.specs.Compare.{emitAgrees, updateAgrees, tickAgrees};
 
 // What replaying a line shows: all as stored, which call is not, or that the line is no stored call.
 pub enum Verdict {
@@ -56,14 +56,14 @@ fn lay_out(pairs: bool, words: &[u64], at: usize, region: &mut [u64], expected: 
 
 // Whether an emit answers what is stored.
 fn emits(block: Block, tick: Tick, region: &[u64], stored: Stored) -> bool
-    ensures { λ r. ⌜ r ≡ Compare·emits block tick (now (region .entry)) stored ⌝ }
+    ensures { λ r. ⌜ r ≡ emitAgrees block tick (now (region .entry)) stored ⌝ }
 {
     is_emitted(blocks::emit(block, tick, region), stored)
 }
 
 // Whether an update answers and leaves what is stored. The words that are stored for after a refusal are those from before it.
 fn updates(block: Block, tick: Tick, region: &mut [u64], stored: Stored, expected: &[u64]) -> bool
-    ensures { λ r. ⌜ r ≡ Compare·updates block tick (now (region .entry)) stored (now (expected .entry)) ⌝ }
+    ensures { λ r. ⌜ r ≡ updateAgrees block tick (now (region .entry)) stored (now (expected .entry)) ⌝ }
 {
     let answer = blocks::update(block, tick, region);
     is_updated(answer, stored) & same_words(region, expected)
@@ -71,7 +71,7 @@ fn updates(block: Block, tick: Tick, region: &mut [u64], stored: Stored, expecte
 
 // Whether a whole tick does.
 fn ticks(block: Block, tick: Tick, region: &mut [u64], stored: Stored, expected: &[u64]) -> bool
-    ensures { λ r. ⌜ r ≡ Compare·ticks block tick (now (region .entry)) stored (now (expected .entry)) ⌝ }
+    ensures { λ r. ⌜ r ≡ tickAgrees block tick (now (region .entry)) stored (now (expected .entry)) ⌝ }
 {
     let answer = blocks::tick(block, tick, region);
     is_ticked(answer, stored) & same_words(region, expected)
@@ -88,7 +88,7 @@ fn ticks_afresh(
     stored: Stored,
     expected: &[u64],
 ) -> bool
-    ensures { λ r. ⌜ (r ≡ true → Compare·ticks block tick (before pairs (now (words .entry)) at (length (now (region .entry)))) stored (now (expected .entry)) ≡ true) ⌝ }
+    ensures { λ r. ⌜ (r ≡ true → tickAgrees block tick (before pairs (now (words .entry)) at (length (now (region .entry)))) stored (now (expected .entry)) ≡ true) ⌝ }
 {
     let again = put_afresh(pairs, words, at, region);
     let Next::At(_) = again else {

@@ -1,1 +1,2 @@
+-- A run of many ticks.
 pub mod Run

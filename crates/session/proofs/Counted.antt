@@ -25,8 +25,8 @@ use Rattle.lines.specs.Lines.{firstOf, laterOf}
 use Rattle.session.specs.declared.state.Run.{Run}
 use Rattle.session.specs.declared.state.Session.the-variants.{Fresh, Running, Over}
 use Rattle.session.specs.Answers.{badText, blockText, refusalText, countsText, outputText, outputsText, answerText}
-use Rattle.session.specs.Soak.{Outcome, malformed, accepted, refused, judged, outcome, wordsAfter, outcomes, outcomeText, texts, ifAccepted, ifRefused, tally, counted, report, tooLong, runText, namedText, linesText}
-use Rattle.session.specs.Stream.{Went, oneMore, ends, started, opened, answered, ticks, goesOn, lineIn}
+use Rattle.session.specs.Soak.{Outcome, malformed, accepted, refused, judged, outcome, lineLeaves, outcomes, outcomeText, texts, ifAccepted, ifRefused, tally, counted, report, tooLong, runText, namedText, linesText}
+use Rattle.session.specs.Stream.{Went, oneMore, ends, firstStarts, firstNames, tickAnswered, tickGoes, goesOn, lineIn}
 use Rattle.session.proofs.Sizes.{F64In, IsF64, f64-first, refused-short, room}
 use Rattle.session.proofs.Whole.{answers}
 
@@ -104,8 +104,8 @@ module _ (a e : Answer) (real : a .real ≡ e .real) (boolean : a .boolean ≡ e
 
 -- a whole tick answers as the emit does
 answered-by : (region : List ℕ) (r : Run) (left : List ℕ) (emit update whole : Answer) → Together emit update whole
-    → answered region r left whole ≡ went-by r left (judged emit)
-unfolding answered judged outcomeText ifAccepted ifRefused
+    → tickAnswered region r left whole ≡ went-by r left (judged emit)
+unfolding tickAnswered judged outcomeText ifAccepted ifRefused
 answered-by region r left emit update whole t =
     rw (answer-same whole emit (t .real) (t .boolean) (r .block), t .as-emit) (go (eqb (emit .refusal) 0))
   where
@@ -119,9 +119,9 @@ answered-by region r left emit update whole t =
 -- a line on a region whose first words are the block's
 module _ (r : Run) (words rest : List ℕ) (size : length words ≡ machineOf (r .block) .size) where
   tick-is : (k : Tick)
-      → ticks (words ++ rest) r k
+      → tickGoes (words ++ rest) r k
       ≡ went-by r (updatedWords (machineOf (r .block)) (k .time) (inputsOf k) words ++ rest) (judged (emitAnswer (machineOf (r .block)) (k .time) (inputsOf k) words))
-  unfolding ticks
+  unfolding tickGoes
   tick-is k =
       let M = machineOf (r .block) in
       let time = k .time in
@@ -133,22 +133,22 @@ module _ (r : Run) (words rest : List ℕ) (size : length words ≡ machineOf (r
       (answered-by (words ++ rest) r (updatedWords M time i words ++ rest) (emitAnswer M time i words) (updateAnswer M time i words) (tickAnswer M time i words) (tick-together M time i words))
 
   line-is : (line : List ℕ)
-      → goesOn (words ++ rest) r line ≡ went-by r (wordsAfter (r .block) words line ++ rest) (outcome (r .block) words line)
-  unfolding goesOn outcome wordsAfter ticked
+      → goesOn (words ++ rest) r line ≡ went-by r (lineLeaves (r .block) words line ++ rest) (outcome (r .block) words line)
+  unfolding goesOn outcome lineLeaves ticked
   line-is line = go (laterOf (r .block) line .ok) (tick-is (laterOf (r .block) line .tick))
     where
       go : (ok : Bool)
           → (let k = laterOf (r .block) line .tick in
-          ticks (words ++ rest) r k
+          tickGoes (words ++ rest) r k
           ≡ went-by r (updatedWords (machineOf (r .block)) (k .time) (inputsOf k) words ++ rest) (judged (emitAnswer (machineOf (r .block)) (k .time) (inputsOf k) words)))
           → (let k = laterOf (r .block) line .tick in
-          cond ok (ticks (words ++ rest) r k) (record { session = Running r; words = words ++ rest; text = badText })
+          cond ok (tickGoes (words ++ rest) r k) (record { session = Running r; words = words ++ rest; text = badText })
           ≡ went-by r (cond ok (updatedWords (machineOf (r .block)) (k .time) (inputsOf k) words) words ++ rest) (cond ok (judged (emitAnswer (machineOf (r .block)) (k .time) (inputsOf k) words)) malformed))
       go true e = e
       go false e = unfold outcomeText in unfold ifAccepted in unfold ifRefused in refl
 
-after-length : (b : Block) (words line : List ℕ) → length (wordsAfter b words line) ≡ length words
-unfolding wordsAfter ticked
+after-length : (b : Block) (words line : List ℕ) → length (lineLeaves b words line) ≡ length words
+unfolding lineLeaves ticked
 after-length b words line = go (laterOf b line .ok)
   where
     go : (ok : Bool) → length (cond ok (updatedWords (machineOf b) (laterOf b line .tick .time) (inputsOf (laterOf b line .tick)) words) words) ≡ length words
@@ -171,7 +171,7 @@ reports (line ∷ lines) r words rest size ha hr =
     let b = r .block in
     let o = outcome b words line in
     let next = counts-by r o in
-    let words' = wordsAfter b words line in
+    let words' = lineLeaves b words line in
     let os = outcomes b words' lines in
     let more = reports lines next words' rest (after-length b words line ∙ size) (added-le (r .accepted) (ifAccepted o) ha) (added-le (r .refused) (ifRefused o) hr) in
     ap (λ (w : Went). w .text ++ answers (w .words) (w .session) lines) (line-is r words rest size line)
@@ -194,15 +194,15 @@ over region text lines = ap (λ (l : List ℕ). text ++ l) (over-silent region l
 module _ (region : List ℕ) (lent : length region ≡ 4110) where
   -- what is written for a block, by what its settings are
   abbrev by-length : Block → Length → Went
-  by-length b l = cond (eqb (l .refusal) 0) (started region b (l .length)) (ends region (refusalText (l .refusal)))
+  by-length b l = cond (eqb (l .refusal) 0) (firstStarts region b (l .length)) (ends region (refusalText (l .refusal)))
 
   abbrev whole-text : Went → List (List ℕ) → List ℕ
   whole-text w lines = w .text ++ answers (w .words) (w .session) lines
 
   runs : (b : Block) → IsF64 b → machineOf b .accepts ≡ true → (later : List (List ℕ))
-      → (t : Bool) → tooLong b ≡ t → whole-text (started region b (machineOf b .size)) later
+      → (t : Bool) → tooLong b ≡ t → whole-text (firstStarts region b (machineOf b .size)) later
       ≡ cond t badText (blockText b ++ report b (outcomes b (fresh b) later))
-  unfolding started report
+  unfolding firstStarts report
   runs b f e later true long =
       let M = machineOf b in
       rw (ap (leb (M .size)) lent ∙ room b f e ∙ ap not long) (over region badText later)
@@ -224,8 +224,8 @@ module _ (region : List ℕ) (lent : length region ≡ 4110) where
   abbrev by-refusal : Block → ℕ → List (List ℕ) → List ℕ
   by-refusal b n later = accept n (blockText b ++ report b (outcomes b (fresh b) later)) (refusalText n)
 
-  first-is : (nm : Named) → F64In nm → (later : List (List ℕ)) → whole-text (opened region nm) later ≡ namedText nm later
-  unfolding opened namedText runText accept
+  first-is : (nm : Named) → F64In nm → (later : List (List ℕ)) → whole-text (firstNames region nm) later ≡ namedText nm later
+  unfolding firstNames namedText runText accept
   first-is Nothing f later = over region badText later
   first-is (named.Block b) f later = go (machineOf b .accepts) refl
     where

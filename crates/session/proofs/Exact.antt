@@ -8,7 +8,7 @@ use lib.Dec.{eqb}
 use lib.ListN.{length}
 use Rattle.blocks.specs.declared.block.Block.{Block}
 use Rattle.session.specs.Answers.{countsText}
-use Rattle.session.specs.Soak.{linesFrom, Outcome, outcome, wordsAfter, outcomes, texts, ifAccepted, ifRefused, tally, report}
+use Rattle.session.specs.Soak.{linesFrom, Outcome, outcome, lineLeaves, outcomes, texts, ifAccepted, ifRefused, tally, report}
 use Rattle.session.proofs.Counted.{counted-small, if-accepted, if-refused}
 
 -- an input has at most as many lines as bytes, and one more where its first line has begun
@@ -26,7 +26,7 @@ lines-few (b ∷ s) p = go (eqb b 10) (lines-few s []) (lines-few s (p ++ (b ∷
 tally-few : (f : Outcome → ℕ) → ((o : Outcome) → f o ≤ 1) → (b : Block) (words : List ℕ) (lines : List (List ℕ)) → tally f (outcomes b words lines) ≤ length lines
 unfolding tally outcomes
 tally-few f one b words [] = omega arith
-tally-few f one b words (line ∷ lines) = omega (arith, one (outcome b words line), tally-few f one b (wordsAfter b words line) lines)
+tally-few f one b words (line ∷ lines) = omega (arith, one (outcome b words line), tally-few f one b (lineLeaves b words line) lines)
 
 -- the first line is not counted
 pub exact : (b : Block) (words input first : List ℕ) (later : List (List ℕ)) → linesFrom [] input ≡ first ∷ later → length input < 2 ^ 64

@@ -17,11 +17,10 @@ use Rattle.text.specs.Items.{flagItem, typeItem}
 use Rattle.text.specs.Stretches.{stretches}
 use Rattle.text.specs.Decimal.{decimalOf}
 use Rattle.lines.specs.Forms.{rowsBefore}
-use Rattle.lines.specs.Values.{itemsFrom, itemsOf, itemOf}
-use Rattle.lines.specs.Values.{wordsOf as lines·wordsOf}
+use Rattle.lines.specs.Values.{itemsFrom, itemsOf, itemOf, wordsSaid}
 use Rattle.lines.specs.Lines.{firstOf, laterOf}
 use Rattle.session.specs.Answers.{outputText, outputsText, answerText}
-use Rattle.session.specs.Soak.{linesFrom, judged, outcome, wordsAfter, outcomes, outcomeText, texts, ifAccepted, ifRefused, tally, counted, report, runText, namedText, linesText, soakOf}
+use Rattle.session.specs.Soak.{linesFrom, judged, outcome, lineLeaves, outcomes, outcomeText, texts, ifAccepted, ifRefused, tally, counted, report, runText, namedText, linesText, soakOf}
 
 abbrev given : List ℕ
 given =
@@ -45,5 +44,5 @@ due =
     ++ bytes "ticks 5 refused 1\n"
 
 pub example : soakOf given ≡ due
-unfolding ofBits toBits ofFields odd ne eq lt le add sub round previousOf positiveDuration refusalOf formRefusal accept lengthOf tickRefusal lengthAnswer emitAnswer updateAnswer updatedWords steppedMachine outputAndTimer next advance stateOf wordsOf machineOf inputsOf ticked namedBy sameList digitValue hexFrom wordItem glyph hexText flagItem typeItem stretches decimalOf rowsBefore itemsFrom itemsOf itemOf lines·wordsOf firstOf laterOf outputText outputsText answerText linesFrom judged outcome wordsAfter outcomes outcomeText texts ifAccepted ifRefused tally counted report runText namedText linesText soakOf
+unfolding ofBits toBits ofFields odd ne eq lt le add sub round previousOf positiveDuration refusalOf formRefusal accept lengthOf tickRefusal lengthAnswer emitAnswer updateAnswer updatedWords steppedMachine outputAndTimer next advance stateOf wordsOf machineOf inputsOf ticked namedBy sameList digitValue hexFrom wordItem glyph hexText flagItem typeItem stretches decimalOf rowsBefore itemsFrom itemsOf itemOf wordsSaid firstOf laterOf outputText outputsText answerText linesFrom judged outcome lineLeaves outcomes outcomeText texts ifAccepted ifRefused tally counted report runText namedText linesText soakOf
 example = refl

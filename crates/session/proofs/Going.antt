@@ -22,7 +22,7 @@ use Rattle.session.specs.declared.state.Run.{Run}
 use Rattle.session.specs.declared.state.Session.{Session}
 use Rattle.session.specs.declared.state.Session.the-variants.{Running}
 use Rattle.session.specs.Answers.{badText, blockText, refusalText, answerText}
-use Rattle.session.specs.Stream.{Went, oneMore, ends, started, opened, answered, ticks, goesOn, Goes}
+use Rattle.session.specs.Stream.{Went, oneMore, ends, firstStarts, firstNames, tickAnswered, tickGoes, goesOn, Goes}
 
 -- the same step taken
 pub goes : {w v : Went} {s : Session} {region old : List ℕ} {at next : ℕ} {new : List ℕ} → w ≡ v → Goes w s region old at next new → Goes v s region old at next new
@@ -31,30 +31,30 @@ goes {s = s} {region = region} {old = old} {at = at} {next = next} {new = new} e
 -- ---- a block starts
 
 module _ (region : List ℕ) (b : Block) (n : ℕ) where
-  pub start-tight : length region < n → ends region badText ≡ started region b n
-  unfolding started
+  pub start-tight : length region < n → ends region badText ≡ firstStarts region b n
+  unfolding firstStarts
   start-tight h = rw (lt-leb n (length region) h)
 
   pub start-runs : {no : ℕ} {left : List ℕ} → n ≤ length region
       → Gives (startRefusal (machineOf b) (take n region)) (startedWords (machineOf b) (take n region)) no left
-      → record { session = Running (record { block = b; accepted = 0; refused = 0 }); words = left ++ drop n region; text = blockText b } ≡ started region b n
-  unfolding started
+      → record { session = Running (record { block = b; accepted = 0; refused = 0 }); words = left ++ drop n region; text = blockText b } ≡ firstStarts region b n
+  unfolding firstStarts
   start-runs h g = rw (le-leb n (length region) h, g .leaves) refl
 
 -- ---- the first line
 
 module _ (region : List ℕ) {nm : Named} where
-  pub open-nothing : nm ≡ Nothing → ends region badText ≡ opened region nm
-  unfolding opened
+  pub open-nothing : nm ≡ Nothing → ends region badText ≡ firstNames region nm
+  unfolding firstNames
   open-nothing e = rw e
 
   module _ (b : Block) (is : nm ≡ named.Block b) (l : Length) (length-is : l ≡ lengthAnswer (machineOf b)) where
-    pub open-refused : (l .refusal ≡ 0 → ⊥) → ends region (refusalText (l .refusal)) ≡ opened region nm
-    unfolding opened
+    pub open-refused : (l .refusal ≡ 0 → ⊥) → ends region (refusalText (l .refusal)) ≡ firstNames region nm
+    unfolding firstNames
     open-refused no-0 = rw (is, ← length-is, ne-eqb (l .refusal) 0 no-0)
 
-    pub open-starts : l .refusal ≡ 0 → started region b (l .length) ≡ opened region nm
-    unfolding opened
+    pub open-starts : l .refusal ≡ 0 → firstStarts region b (l .length) ≡ firstNames region nm
+    unfolding firstNames
     open-starts e = rw (is, ← length-is, eq-eqb (l .refusal) 0 e)
 
 -- ---- a tick
@@ -63,16 +63,16 @@ module _ (region : List ℕ) (r : Run) (k : Tick) (n : ℕ) (size : n ≡ machin
   -- a tick in the first m words
   abbrev in-words : ℕ → Went
   in-words m =
-      answered region r (updatedWords (machineOf (r .block)) (k .time) (inputsOf k) (take m region) ++ drop m region) (tickAnswer (machineOf (r .block)) (k .time) (inputsOf k) (take m region))
+      tickAnswered region r (updatedWords (machineOf (r .block)) (k .time) (inputsOf k) (take m region) ++ drop m region) (tickAnswer (machineOf (r .block)) (k .time) (inputsOf k) (take m region))
 
   abbrev in-first : ℕ → Went
   in-first m = cond (leb m (length region)) (in-words m) (ends region [])
 
-  ticks-are : in-first n ≡ ticks region r k
-  unfolding ticks
+  ticks-are : in-first n ≡ tickGoes region r k
+  unfolding tickGoes
   ticks-are = ap in-first size
 
-  pub tick-tight : length region < n → ends region [] ≡ ticks region r k
+  pub tick-tight : length region < n → ends region [] ≡ tickGoes region r k
   tick-tight h = ap (λ (t : Bool). cond t (in-words n) (ends region [])) (sym (lt-leb n (length region) h)) ∙ ticks-are
 
   module _ (h : n ≤ length region) {a : Answer} {left : List ℕ}
@@ -83,23 +83,23 @@ module _ (region : List ℕ) (r : Run) (k : Tick) (n : ℕ) (size : n ≡ machin
     abbrev by-number : Bool → Went
     by-number b = cond b (went (oneMore (r .accepted)) (r .refused) (answerText (r .block) a)) (went (r .accepted) (oneMore (r .refused)) (refusalText (a .refusal)))
 
-    ticks-answer : answered region r (left ++ drop n region) a ≡ ticks region r k
+    ticks-answer : tickAnswered region r (left ++ drop n region) a ≡ tickGoes region r k
     ticks-answer =
-        ap (λ (w : List ℕ). answered region r (w ++ drop n region) a) (g .leaves)
-        ∙ ap (answered region r _) (g .answers)
+        ap (λ (w : List ℕ). tickAnswered region r (w ++ drop n region) a) (g .leaves)
+        ∙ ap (tickAnswered region r _) (g .answers)
         ∙ ap (λ (t : Bool). cond t (in-words n) (ends region [])) (sym (le-leb n (length region) h))
         ∙ ticks-are
 
     pub tick-refused : (a .refusal ≡ 0 → ⊥) → {m : ℕ} → m ≡ oneMore (r .refused)
-        → went (r .accepted) m (refusalText (a .refusal)) ≡ ticks region r k
-    unfolding answered
+        → went (r .accepted) m (refusalText (a .refusal)) ≡ tickGoes region r k
+    unfolding tickAnswered
     tick-refused no-0 e =
         let t = sym (ne-eqb (a .refusal) 0 no-0) in
         ap (λ (n' : ℕ). went (r .accepted) n' (refusalText (a .refusal))) e ∙ ap by-number t ∙ ticks-answer
 
     pub tick-accepted : a .refusal ≡ 0 → {m : ℕ} → m ≡ oneMore (r .accepted)
-        → went m (r .refused) (answerText (r .block) a) ≡ ticks region r k
-    unfolding answered
+        → went m (r .refused) (answerText (r .block) a) ≡ tickGoes region r k
+    unfolding tickAnswered
     tick-accepted is-0 e =
         let t = sym (eq-eqb (a .refusal) 0 is-0) in
         ap (λ (n' : ℕ). went n' (r .refused) (answerText (r .block) a)) e ∙ ap by-number t ∙ ticks-answer
@@ -111,6 +111,6 @@ module _ (region : List ℕ) (r : Run) (line : List ℕ) {l : Later} (is : l ≡
   unfolding goesOn
   on-bad e = rw (← is, e)
 
-  pub on-tick : l .ok ≡ true → ticks region r (l .tick) ≡ goesOn region r line
+  pub on-tick : l .ok ≡ true → tickGoes region r (l .tick) ≡ goesOn region r line
   unfolding goesOn
   on-tick e = rw (← is, e)

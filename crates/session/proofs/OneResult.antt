@@ -4,7 +4,7 @@ use mathlib.Core.Path.{_≡_, ap, sym, _∙_}
 use mathlib.Core.List.{List}
 use lib.ListN.{take}
 use denote.Ref.{now}
-use Rattle.dynamics.proofs.Once.{OnceLeft}
+use Rattle.reals.proofs.Once.{OnceLeft}
 use Rattle.session.specs.declared.chunk.Fed.{Fed}
 use Rattle.session.specs.declared.state.Session.{Session}
 use Rattle.session.specs.Put.{Put}
@@ -47,16 +47,16 @@ module _ (st : Stream) (chunk : List ℕ) (x y : Fed) (taken : x .used ≡ y .us
   fed-out = put-left (p .put) (q' .put)
 
 pub feed-once-carry : OnceLeft feed.Post (λ κs s. now (s .1 .1 .0))
-feed-once-carry κs a x y s t p q = let e = p .0 ∙ sym (q .0) in (fed-once _ _ x y e (p .1 .0) (q .1 .0), fed-carry _ _ x y e (p .1 .0) (q .1 .0))
+feed-once-carry = record { alike = λ κs a x y s t p q. let e = p .0 ∙ sym (q .0) in (fed-once _ _ x y e (p .1 .0) (q .1 .0), fed-carry _ _ x y e (p .1 .0) (q .1 .0)) }
 
 pub feed-once-region : OnceLeft feed.Post (λ κs s. now (s .1 .1 .1 .1 .0))
-feed-once-region κs a x y s t p q = let e = p .0 ∙ sym (q .0) in (fed-once _ _ x y e (p .1 .0) (q .1 .0), fed-region _ _ x y e (p .1 .0) (q .1 .0))
+feed-once-region = record { alike = λ κs a x y s t p q. let e = p .0 ∙ sym (q .0) in (fed-once _ _ x y e (p .1 .0) (q .1 .0), fed-region _ _ x y e (p .1 .0) (q .1 .0)) }
 
 pub feed-once-out : OnceLeft feed.Post (λ κs s. now (s .1 .1 .1 .1 .1 .0))
-feed-once-out κs a x y s t p q = let e = p .0 ∙ sym (q .0) in (fed-once _ _ x y e (p .1 .0) (q .1 .0), fed-out _ _ x y e (p .1 .0) (q .1 .0))
+feed-once-out = record { alike = λ κs a x y s t p q. let e = p .0 ∙ sym (q .0) in (fed-once _ _ x y e (p .1 .0) (q .1 .0), fed-out _ _ x y e (p .1 .0) (q .1 .0)) }
 
 pub finish-once-region : OnceLeft finish.Post (λ κs s. now (s .1 .1 .1 .0))
-finish-once-region κs a x y s t p q = (put-place (p .0 .put) (q .0 .put), p .0 .words ∙ sym (q .0 .words))
+finish-once-region = record { alike = λ κs a x y s t p q. (put-place (p .0 .put) (q .0 .put), p .0 .words ∙ sym (q .0 .words)) }
 
 pub finish-once-out : OnceLeft finish.Post (λ κs s. now (s .1 .1 .1 .1 .0))
-finish-once-out κs a x y s t p q = (put-place (p .0 .put) (q .0 .put), put-left (p .0 .put) (q .0 .put))
+finish-once-out = record { alike = λ κs a x y s t p q. (put-place (p .0 .put) (q .0 .put), put-left (p .0 .put) (q .0 .put)) }

@@ -21,7 +21,7 @@ use Rattle.session.specs.declared.state.Run.{Run}
 use Rattle.session.specs.declared.state.Session.{Session}
 use Rattle.session.specs.declared.state.Session.the-variants.{Fresh, Running, Over}
 use Rattle.session.specs.Answers.{blockText, refusalText, outputText, outputsText, answerText}
-use Rattle.session.specs.Stream.{Went, started, opened, answered, ticks, goesOn, lineIn, Stream, lineEnds, lastLine, closing, ended}
+use Rattle.session.specs.Stream.{Went, firstStarts, firstNames, tickAnswered, tickGoes, goesOn, lineIn, Stream, lineEnds, lastLine, closing, ended}
 
 abbrev Short : Went → Type 0
 Short w = length (w .text) ≤ 32
@@ -52,20 +52,20 @@ answer-short (TrueDelay time on-init) a = simp length-append (omega (arith, leng
 answer-short (TrueFalseHold long-true long-false) a = simp length-append (omega (arith, length-flag (a .boolean)))
 answer-short (TrueHoldWithReset duration) a = simp length-append (omega (arith, length-flag (a .boolean)))
 
-answered-short : (region : List ℕ) (r : Run) (left : List ℕ) (a : Answer) → Short (answered region r left a)
-unfolding answered
+answered-short : (region : List ℕ) (r : Run) (left : List ℕ) (a : Answer) → Short (tickAnswered region r left a)
+unfolding tickAnswered
 answered-short region r left a = either (eqb (a .refusal) 0) _ _ (answer-short (r .block) a) (refusal-short (a .refusal))
 
-tick-short : (region : List ℕ) (r : Run) (k : Tick) → Short (ticks region r k)
-unfolding ticks
+tick-short : (region : List ℕ) (r : Run) (k : Tick) → Short (tickGoes region r k)
+unfolding tickGoes
 tick-short region r k = either (leb (machineOf (r .block) .size) (length region)) _ _ (answered-short region r _ _) (omega arith)
 
-start-short : (region : List ℕ) (b : Block) (n : ℕ) → Short (started region b n)
-unfolding started
+start-short : (region : List ℕ) (b : Block) (n : ℕ) → Short (firstStarts region b n)
+unfolding firstStarts
 start-short region b n = either (leb n (length region)) _ _ (block-short b) (omega arith)
 
-open-short : (region : List ℕ) (nm : Named) → Short (opened region nm)
-unfolding opened
+open-short : (region : List ℕ) (nm : Named) → Short (firstNames region nm)
+unfolding firstNames
 open-short region Nothing = omega arith
 open-short region (named.Block b) =
     either (eqb (lengthAnswer (machineOf b) .refusal) 0) _ _ (start-short region b _) (refusal-short (lengthAnswer (machineOf b) .refusal))

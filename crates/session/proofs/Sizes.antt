@@ -27,7 +27,7 @@ use Rattle.blocks.specs.declared.named.Named.{Named}
 use Rattle.blocks.specs.declared.named.Named.the-variants.{Nothing}
 use Rattle.blocks.specs.declared.named.Named.the-variants as variant
 use Rattle.lines.specs.Forms.{numberFor, formAt}
-use Rattle.lines.specs.Values.{itemsOf, Words, said, malformed, wordsOf}
+use Rattle.lines.specs.Values.{itemsOf, Words, said, malformed, wordsSaid}
 use Rattle.lines.specs.Lines.{namedWith, namedIn, firstOf}
 use Rattle.session.specs.Soak.{tooLong}
 
@@ -67,7 +67,7 @@ f64-said n malformed = tt
 
 f64-items : (items : List (List ℕ)) → F64In (namedIn items)
 f64-items [] = tt
-f64-items (name ∷ settings) = f64-said (numberFor name) (wordsOf (formAt (numberFor name) .settings) settings)
+f64-items (name ∷ settings) = f64-said (numberFor name) (wordsSaid (formAt (numberFor name) .settings) settings)
 
 pub f64-first : (line : List ℕ) → F64In (firstOf line)
 unfolding firstOf

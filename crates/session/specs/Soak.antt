@@ -46,12 +46,12 @@ module _ (b : Block) where
   unfoldable pub outcome : List ℕ → List ℕ → Outcome
   outcome words line = let l = laterOf b line in cond (l .ok) (judged (ticked b (l .tick) words .emitted)) malformed
 
-  unfoldable pub wordsAfter : List ℕ → List ℕ → List ℕ
-  wordsAfter words line = let l = laterOf b line in cond (l .ok) (ticked b (l .tick) words .left) words
+  unfoldable pub lineLeaves : List ℕ → List ℕ → List ℕ
+  lineLeaves words line = let l = laterOf b line in cond (l .ok) (ticked b (l .tick) words .left) words
 
   unfoldable pub outcomes : List ℕ → List (List ℕ) → List Outcome
   outcomes words [] = []
-  outcomes words (line ∷ lines) = outcome words line ∷ outcomes (wordsAfter words line) lines
+  outcomes words (line ∷ lines) = outcome words line ∷ outcomes (lineLeaves words line) lines
 
   -- the line written for each
   unfoldable pub outcomeText : Outcome → List ℕ

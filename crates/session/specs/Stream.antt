@@ -41,8 +41,8 @@ module _ (region : List ℕ) where
   ends text = record { session = Over; words = region; text = text }
 
   -- a block starts in the first words of the region if that has room for its state
-  unfoldable pub started : Block → ℕ → Went
-  started b n =
+  unfoldable pub firstStarts : Block → ℕ → Went
+  firstStarts b n =
       cond (leb n (length region))
       (record {
         session = Running (record { block = b; accepted = 0; refused = 0 });
@@ -51,15 +51,15 @@ module _ (region : List ℕ) where
       })
       (ends badText)
 
-  unfoldable pub opened : Named → Went
-  opened Nothing = ends badText
-  opened (named.Block b) =
+  unfoldable pub firstNames : Named → Went
+  firstNames Nothing = ends badText
+  firstNames (named.Block b) =
       let l = lengthAnswer (machineOf b) in
-      cond (eqb (l .refusal) 0) (started b (l .length)) (ends (refusalText (l .refusal)))
+      cond (eqb (l .refusal) 0) (firstStarts b (l .length)) (ends (refusalText (l .refusal)))
 
   -- a tick that brought an answer
-  unfoldable pub answered : Run → List ℕ → Answer → Went
-  answered r left a =
+  unfoldable pub tickAnswered : Run → List ℕ → Answer → Went
+  tickAnswered r left a =
       cond (eqb (a .refusal) 0)
       (record {
         session = Running (record { block = r .block; accepted = oneMore (r .accepted); refused = r .refused });
@@ -73,21 +73,21 @@ module _ (region : List ℕ) where
       })
 
   -- a tick in the first words of the region; without them the session is over
-  unfoldable pub ticks : Run → Tick → Went
-  ticks r k =
+  unfoldable pub tickGoes : Run → Tick → Went
+  tickGoes r k =
       let b = r .block in
       let n = machineOf b .size in
       cond (leb n (length region))
-      (answered r (renewed n (updatedWords (machineOf b) (k .time) (inputsOf k)) region) (tickAnswer (machineOf b) (k .time) (inputsOf k) (take n region)))
+      (tickAnswered r (renewed n (updatedWords (machineOf b) (k .time) (inputsOf k)) region) (tickAnswer (machineOf b) (k .time) (inputsOf k) (take n region)))
       (ends [])
 
   unfoldable pub goesOn : Run → List ℕ → Went
   goesOn r line =
       let l = laterOf (r .block) line in
-      cond (l .ok) (ticks r (l .tick)) (record { session = Running r; words = region; text = badText })
+      cond (l .ok) (tickGoes r (l .tick)) (record { session = Running r; words = region; text = badText })
 
   unfoldable pub lineIn : Session → List ℕ → Went
-  lineIn Fresh line = opened (firstOf line)
+  lineIn Fresh line = firstNames (firstOf line)
   lineIn (Running r) line = goesOn r line
   lineIn Over line = ends []
 

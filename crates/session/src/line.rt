@@ -13,7 +13,7 @@ use lines::later_line;
 ghost use mathlib.Core.Path.{_≡_};
 ghost use Prim.Native.Nat.{_+_, _≤_};
 ghost use lib.ListN.{length};
-ghost use Rattle.session.specs.Stream.{oneMore, started, opened, ticks, goesOn, lineIn, Goes};
+ghost use Rattle.session.specs.Stream.{oneMore, firstStarts, firstNames, tickGoes, goesOn, lineIn, Goes};
 
 // The session after a line, and the place after what was written for it.
 pub struct Step {
@@ -31,7 +31,7 @@ fn one_more(n: u64) -> u64
 // Starts a block in the first n words of the region.
 fn start_block(block: Block, n: usize, region: &mut [u64], out: &mut [u8], at: usize) -> Step
     requires { ⌜ at + 32 ≤ length (now out) ⌝ }
-    ensures { λ r. ⌜ Goes (started (now (region .entry)) block n) (r .session) (now (region .exit)) (now (out .entry)) at (r .at) (now (out .exit)) ⌝ }
+    ensures { λ r. ⌜ Goes (firstStarts (now (region .entry)) block n) (r .session) (now (region .exit)) (now (out .entry)) at (r .at) (now (out .exit)) ⌝ }
 {
     if region.len() < n {
         let bad_end = put_bad(out, at);
@@ -55,7 +55,7 @@ fn start_block(block: Block, n: usize, region: &mut [u64], out: &mut [u8], at: u
 // Answers the first line.
 fn open_with(named: Named, region: &mut [u64], out: &mut [u8], at: usize) -> Step
     requires { ⌜ at + 32 ≤ length (now out) ⌝ }
-    ensures { λ r. ⌜ Goes (opened (now (region .entry)) named) (r .session) (now (region .exit)) (now (out .entry)) at (r .at) (now (out .exit)) ⌝ }
+    ensures { λ r. ⌜ Goes (firstNames (now (region .entry)) named) (r .session) (now (region .exit)) (now (out .entry)) at (r .at) (now (out .exit)) ⌝ }
 {
     let Named::Block(block) = named else {
         let bad_end = put_bad(out, at);
@@ -79,7 +79,7 @@ fn open_with(named: Named, region: &mut [u64], out: &mut [u8], at: usize) -> Ste
 // Runs a tick of the block in the first words of the region.
 fn tick_in(run: Run, tick: Tick, region: &mut [u64], out: &mut [u8], at: usize) -> Step
     requires { ⌜ at + 32 ≤ length (now out) ⌝ }
-    ensures { λ r. ⌜ Goes (ticks (now (region .entry)) run tick) (r .session) (now (region .exit)) (now (out .entry)) at (r .at) (now (out .exit)) ⌝ }
+    ensures { λ r. ⌜ Goes (tickGoes (now (region .entry)) run tick) (r .session) (now (region .exit)) (now (out .entry)) at (r .at) (now (out .exit)) ⌝ }
 {
     let block = run.block;
     let n = blocks::size_of(block);

@@ -12,7 +12,7 @@ use lib.ListN.{length}
 use lib.Ieee.{Float}
 use lib.Ieee.Scale.{finite}
 use Rattle.dynamics.specs.Previous.{runsBack}
-use Rattle.dynamics.specs.Answer.{refusalOf}
+use Rattle.dynamics.specs.Answer.{refusalOf, laterRefusal}
 use Rattle.dynamics.specs.Machine.{stateRefusal}
 use Rattle.dynamics.proofs.Accepted.{accepted}
 use Rattle.dynamics.proofs.Accepted as by
@@ -20,7 +20,7 @@ use Rattle.blocks.specs.Block.{machineOf}
 use Rattle.blocks.specs.declared.block.Tick.{Tick}
 use Rattle.sheet.specs.Rows.{widthOf, Placed, placed, every, anyOf, firstFailing, joined}
 use Rattle.sheet.specs.Sheet.{fewRows, inReach, settled, decodes, onTime, startNumber, tickNumber, rowAtFault, startRow, startsOn, SheetStarted, tickSaid, SheetTicked, answersOf, warnsOf, leftOf}
-use Rattle.sheet.specs.Walk.{Carried, carried, ready, refusedWalk, surveyedRow, examinedRow, turnedIn, turned, begun, surveyed, formed, answerOf, walked, onward, starting, ticking, noTick}
+use Rattle.sheet.specs.Walk.{Carried, carried, ready, refusedWalk, surveyedRow, examinedRow, turnedIn, turned, begun, surveyed, formed, answerOf, walked, handedOn, starting, ticking, noTick}
 use Rattle.sheet.specs.declared.row.Row.{Row}
 use Rattle.sheet.specs.declared.walk.Phase.{Phase}
 use Rattle.sheet.specs.declared.walk.Phase.the-variants.{Survey, Start, Examine, Run}
@@ -32,7 +32,7 @@ use Rattle.sheet.proofs.Admission.{accepts, all-accept, joined-same, an
 
 -- ---- between walks
 -- a record of what was found is the walk that goes on
-onward-is : (f : Walk → Walk) (c : Carried) (ws os : List ℕ) (w : Walk) → c .region ≡ ws → c .answers ≡ os → f (c .found) ≡ w → onward f c ≡ carried w ws os
+onward-is : (f : Walk → Walk) (c : Carried) (ws os : List ℕ) (w : Walk) → c .region ≡ ws → c .answers ≡ os → f (c .found) ≡ w → handedOn f c ≡ carried w ws os
 onward-is f c ws os w d a e = rw (e, d, a)
 
 -- ---- a walk that tests, which both calls begin with
@@ -139,7 +139,7 @@ module _ (rs : List Row) (ws : List ℕ) where
             none = rw (begins noTick rs ws [] Survey nothing late-nothing (survey-goes ws []) few)
                 (unharmed noTick ws [] Survey nothing late-nothing (survey-goes ws []) 0 rs 0 all reach settles (every-true (placed rs ws)))
 
-            goes : onward measure only ≡ carried (ready Start) ws []
+            goes : handedOn measure only ≡ carried (ready Start) ws []
             goes = onward-is measure only ws [] (ready Start) (none .found .region-is) (none .found .answers-is) (unfold surveyed in rw (none .found .number-is, none .at-end, eq-eqb (length ws) (length ws) refl) refl)
 
             works : Works (starting rs ws) false (joined startsOn (placed rs ws)) []
@@ -163,7 +163,7 @@ module _ (k : Tick) where
   state r w = stateRefusal (machineOf (r .block)) time w
 
   late-state : (r : Row) (w : List ℕ) → Above 3 (state r w)
-  unfolding stateRefusal
+  unfolding stateRefusal laterRefusal
   late-state r w = go (machineOf (r .block) .decodes w) (not (runsBack time (machineOf (r .block) .previous w)))
     where
       go : (d o : Bool) → Above 3 (refusalOf true true true true true d o)
@@ -242,11 +242,11 @@ module _ (k : Tick) where
 
             -- what a row's words give
             gives-6 : (x : Placed) → true ≡ true → decodes x ≡ false → state (x .row) (x .words) ≡ 6
-            unfolding stateRefusal refusalOf
+            unfolding stateRefusal laterRefusal refusalOf
             gives-6 x _ e = simp e
 
             not-6 : (x : Placed) → true ≡ true → decodes x ≡ true → Above 6 (state (x .row) (x .words))
-            unfolding stateRefusal refusalOf
+            unfolding stateRefusal laterRefusal refusalOf
             not-6 x _ e = rw e (go (onTime time x))
               where
                 go : (o : Bool) → Above 6 (refusalOf true true true true true true o)
@@ -254,11 +254,11 @@ module _ (k : Tick) where
                 go false = unfold refusalOf in inr (omega arith)
 
             gives-7 : (x : Placed) → decodes x ≡ true → onTime time x ≡ false → state (x .row) (x .words) ≡ 7
-            unfolding stateRefusal refusalOf
+            unfolding stateRefusal laterRefusal refusalOf
             gives-7 x d e = simp (d, e)
 
             gives-0 : (x : Placed) → decodes x ≡ true → onTime time x ≡ true → state (x .row) (x .words) ≡ 0
-            unfolding stateRefusal refusalOf
+            unfolding stateRefusal laterRefusal refusalOf
             gives-0 x d e = simp (d, e)
 
             found-6 : every decodes ps ≡ false → FindsAll tested 6 (firstFailing decodes ps) ws os
@@ -342,7 +342,7 @@ module _ (k : Tick) where
                       number : tickNumber time rs ws os ≡ 0
                       number = unfold tickNumber refusalOf in simp (few, reach, settles, fits, space, timely, decoded, t)
 
-                      goes-on : onward form tested ≡ carried (ready Run) ws os
+                      goes-on : handedOn form tested ≡ carried (ready Run) ws os
                       goes-on = onward-is form tested ws os (ready Run) (unchanged .0) (unchanged .1) (unfold formed in rw (held-back, at-end, space, timely, found-0 decoded t .found .number-is) refl)
 
                       works : Works (ticking k rs ws os) (anyOf (warnsOf k) ps) (joined (leftOf k) ps) (joined (answersOf k) ps)

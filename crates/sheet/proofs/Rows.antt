@@ -29,7 +29,7 @@ use denote.Triple.Walked.{says}
 use Rattle.blocks.specs.declared.block.Tick.{Tick}
 use Rattle.blocks.proofs.block.Tick as T
 use Rattle.blocks.proofs.block.Tick.Laws as T′
-use Rattle.sheet.specs.Walk.{Carried, carried, walked, onward, Left}
+use Rattle.sheet.specs.Walk.{Carried, carried, walked, handedOn, Left}
 use Rattle.sheet.specs.declared.row.Row.{Row}
 use Rattle.sheet.specs.declared.walk.Walk.{Walk}
 use Rattle.sheet.proofs.Again.{Slice, contractOf, ref, Held, Lent, Kept, Fresh, Came, carries, Said, calls-lent}
@@ -62,8 +62,8 @@ all h w ws os = walked (h .tick) 0 (h .rows .now) (carried w ws os)
 
 -- one walk more, from c as f makes it ready
 pub walks-on : (k : Tick) (rs : List Row) (f : Walk → Walk) {c : Carried} {w w′ w″ : Walk} {ws os ws″ os″ : List ℕ}
-    → carried w ws os ≡ c → w′ ≡ f w → Left (walked k 0 rs (carried w′ ws os)) w″ ws″ os″ → carried w″ ws″ os″ ≡ walked k 0 rs (onward f c)
-walks-on k rs f {ws = ws} {os = os} e ready l = carries l ∙ ap (λ (w : Walk). walked k 0 rs (carried w ws os)) ready ∙ ap (λ (c : Carried). walked k 0 rs (onward f c)) e
+    → carried w ws os ≡ c → w′ ≡ f w → Left (walked k 0 rs (carried w′ ws os)) w″ ws″ os″ → carried w″ ws″ os″ ≡ walked k 0 rs (handedOn f c)
+walks-on k rs f {ws = ws} {os = os} e ready l = carries l ∙ ap (λ (w : Walk). walked k 0 rs (carried w ws os)) ready ∙ ap (λ (c : Carried). walked k 0 rs (handedOn f c)) e
 
 module _ {M : Type 1} (𝓤 : URA M) (H : Heap 𝓤) (A : Atoms 𝓤) (mem : Memory → SProp 𝓤) (run : Routine → Fun 𝓤) where
   abbrev pub Rows : Contract 𝓤

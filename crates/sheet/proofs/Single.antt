@@ -13,7 +13,7 @@ use lib.Seq.{take-at, drop-at, take-all, length-take-le, drop-drop}
 use lib.Ieee.{Float}
 use lib.Ieee.Scale.{finite}
 use Rattle.dynamics.specs.Previous.{runsBack}
-use Rattle.dynamics.specs.Answer.{refusalOf, formRefusal}
+use Rattle.dynamics.specs.Answer.{refusalOf, formRefusal, laterRefusal}
 use Rattle.dynamics.specs.Machine.{Machine, sized, startRefusal, tickRefusal, stateRefusal, updateAnswer}
 use Rattle.dynamics.proofs.Accepted.{accepted, all-passed}
 use Rattle.dynamics.proofs.Calls.{tick-2, form-right}
@@ -21,8 +21,8 @@ use Rattle.blocks.specs.Block.{machineOf, inputsOf, ticked}
 use Rattle.blocks.specs.declared.block.Tick.{Tick}
 use Rattle.blocks.proofs.Lengths.{started-length, updated-length}
 use Rattle.sheet.specs.Rows.{wide, widthOf, Placed, placed, every, anyOf, firstFailing, joined}
-use Rattle.sheet.specs.Sheet.{fewRows, inReach, settled, decodes, onTime, startNumber, tickNumber, rowAtFault, startsOn, rowTick, answersOf, leftOf, tickSaid, SheetStarted, SheetTicked}
-use Rattle.sheet.specs.Single.{At, nowHas, StartsSingly, TicksSingly, ownNumber, Topmost}
+use Rattle.sheet.specs.Sheet.{fewRows, inReach, settled, decodes, onTime, startNumber, tickNumber, rowAtFault, startRow, startsOn, rowTick, answersOf, leftOf, tickSaid, tickLeft, SheetStarted, SheetTicked}
+use Rattle.sheet.specs.Single.{At, nowHas, StartsSingly, TicksSingly, sheetAfter, AllAccepted, singlyAfter, ownStart, ownNumber, Topmost}
 use Rattle.sheet.specs.declared.row.Row.{Row}
 use Rattle.sheet.specs.declared.row.SheetAnswer.{SheetAnswer}
 use Rattle.sheet.proofs.Stretches.{both, either}
@@ -109,6 +109,15 @@ module _ (k : Tick) (rs : List Row) (ws os : List ℕ) where
       → r .warning ≡ anyOf (λ p. updateAnswer (machineOf (p .row .block)) time (inputsOf (rowTick k (p .row))) (p .words) .warning) ps
   unfolding ticked rowTick tickSaid
   warns-singly r left out said z = ap (λ (a : SheetAnswer). a .warning) (said .answer ∙ sym (accepted _ _ _ (sym z)))
+
+-- ---- many accepted ticks: each row's stretch is what its block, run singly on them, leaves
+pub run-singly : (rs : List Row) (os ws : List ℕ) (ks : List Tick) → AllAccepted rs os ws ks → (n : ℕ) (p : Placed) → At n p (placed rs ws)
+    → At n (nowHas p (singlyAfter (p .row) (p .words) ks)) (placed rs (sheetAfter rs os ws ks))
+unfolding AllAccepted singlyAfter sheetAfter
+run-singly rs os ws [] all n p a = a
+run-singly rs os ws (k ∷ ks) all n p a =
+    run-singly rs os (tickLeft k rs ws os) ks (all .1) n _
+    (tick-singly k rs ws os _ _ _ (record { answer = refl; region = refl; answers = refl }) (all .0) n p a .leaves)
 
 -- ---- an accepted start
 -- the row's block accepts a start on its own stretch
@@ -204,12 +213,12 @@ module _ (q : Row → Bool) where
   first-placed (r ∷ rs) ws = rw (first-placed rs (drop (wide r) ws)) refl
 
 -- a sheet's row at fault is the topmost whose own number it is, if the rows that fail a test are those whose number it is
-topmost : (time : Float) (number : ℕ) (q : Placed → Bool) (ps : List Placed) → every q ps ≡ false
-    → ((n : ℕ) (p : Placed) → At n p ps → q p ≡ false → ownNumber time p ≡ number) → ((n : ℕ) (p : Placed) → At n p ps → q p ≡ true → ownNumber time p ≡ number → ⊥)
-    → Topmost time number (firstFailing q ps) ps
-topmost time number q ps e yes-here not-there =
+topmost : (own : Placed → ℕ) (number : ℕ) (q : Placed → Bool) (ps : List Placed) → every q ps ≡ false
+    → ((n : ℕ) (p : Placed) → At n p ps → q p ≡ false → own p ≡ number) → ((n : ℕ) (p : Placed) → At n p ps → q p ≡ true → own p ≡ number → ⊥)
+    → Topmost own number (firstFailing q ps) ps
+topmost own number q ps e yes-here not-there =
     let f = first-fails q ps e in
-    record { row = f .one; there = f .there; own = yes-here _ (f .one) (f .there) (f .fails); above = λ i p a h. not-there i p a (f .before i p a h) }
+    record { row = f .one; there = f .there; its-own = yes-here _ (f .one) (f .there) (f .fails); above = λ i p a h. not-there i p a (f .before i p a h) }
 
 -- ---- a sheet's refusal 2, 6 or 7 at row n is row n's own, and no row above has it
 -- settings that are accepted are not refused with 2
@@ -217,10 +226,21 @@ not-2 : (M : Machine) (time : Float) (w : List ℕ) → M .accepts ≡ true → 
 unfolding tickRefusal
 not-2 M time w s e = true≢false (sym s ∙ rw e at (tells true (M .accepts) (sized M w) true (finite time) (M .decodes w) (not (runsBack time (M .previous w)))))
 
+-- of a start 2 is the only one that a row is at fault for
+start-not-2 : (M : Machine) (w : List ℕ) → M .accepts ≡ true → startRefusal M w ≡ 2 → ⊥
+unfolding startRefusal formRefusal
+start-not-2 M w s e = true≢false (sym s ∙ rw e at (tells true (M .accepts) (sized M w) true true true true))
+
+pub own-2-start : (rs : List Row) (ws : List ℕ) → startNumber rs ws ≡ 2 → Topmost ownStart 2 (startRow 2 rs) (placed rs ws)
+unfolding startNumber startRow startRefusal formRefusal refusalOf
+own-2-start rs ws e = rw (← first-placed settled rs ws) (topmost ownStart 2 (λ p. settled (p .row)) (placed rs ws)
+    (every-placed settled rs ws ∙ rw e at (tells (fewRows (length rs) && every inReach rs) (every settled rs) (eqb (length ws) (widthOf rs)) true true true true))
+    (λ n p a f. simp f) (λ n p a t. start-not-2 (machineOf (p .row .block)) (p .words) t))
+
 module _ (time : Float) (rs : List Row) (ws os : List ℕ) where
-  pub own-2 : tickNumber time rs ws os ≡ 2 → Topmost time 2 (rowAtFault 2 time rs ws) (placed rs ws)
+  pub own-2 : tickNumber time rs ws os ≡ 2 → Topmost (ownNumber time) 2 (rowAtFault 2 time rs ws) (placed rs ws)
   unfolding rowAtFault
-  own-2 e = rw (← first-placed settled rs ws) (topmost time 2 (λ p. settled (p .row)) (placed rs ws) (every-placed settled rs ws ∙ told time rs ws os 2 e)
+  own-2 e = rw (← first-placed settled rs ws) (topmost (ownNumber time) 2 (λ p. settled (p .row)) (placed rs ws) (every-placed settled rs ws ∙ told time rs ws os 2 e)
       (λ n p a f. tick-2 (machineOf (p .row .block)) f time (p .words)) (λ n p a t. not-2 (machineOf (p .row .block)) time (p .words) t))
 
   -- with the settings accepted, the lengths right and the time finite a row's own number is told by its words alone
@@ -237,22 +257,22 @@ module _ (time : Float) (rs : List Row) (ws os : List ℕ) where
         (every-at (λ p. settled (p .row)) n p (placed rs ws) a (every-placed settled rs ws ∙ settles))
         (every-at (λ p. sized (machineOf (p .row .block)) (p .words)) n p (placed rs ws) a (all-sized rs ws (sym (eqb-true (length ws) (widthOf rs) fits)))) timely
 
-  pub own-6 : tickNumber time rs ws os ≡ 6 → Topmost time 6 (rowAtFault 6 time rs ws) (placed rs ws)
-  unfolding rowAtFault stateRefusal refusalOf
+  pub own-6 : tickNumber time rs ws os ≡ 6 → Topmost (ownNumber time) 6 (rowAtFault 6 time rs ws) (placed rs ws)
+  unfolding rowAtFault stateRefusal laterRefusal refusalOf
   own-6 e =
       let (s, l, t, d) = told time rs ws os 6 e in
-      topmost time 6 decodes (placed rs ws) d (λ n p a f. by-words s l t n p a ∙ simp f) (λ n p a y z. six-not (onTime time p) (sym (by-words s l t n p a ∙ simp y) ∙ z))
+      topmost (ownNumber time) 6 decodes (placed rs ws) d (λ n p a f. by-words s l t n p a ∙ simp f) (λ n p a y z. six-not (onTime time p) (sym (by-words s l t n p a ∙ simp y) ∙ z))
     where
       six-not : (o : Bool) → refusalOf true true true true true true o ≡ 6 → ⊥
       six-not true z = unfold refusalOf in omega (arith, z)
       six-not false z = unfold refusalOf in omega (arith, z)
 
-  pub own-7 : tickNumber time rs ws os ≡ 7 → Topmost time 7 (rowAtFault 7 time rs ws) (placed rs ws)
-  unfolding rowAtFault stateRefusal refusalOf
+  pub own-7 : tickNumber time rs ws os ≡ 7 → Topmost (ownNumber time) 7 (rowAtFault 7 time rs ws) (placed rs ws)
+  unfolding rowAtFault stateRefusal laterRefusal refusalOf
   own-7 e =
       let (s, l, t, d, o) = told time rs ws os 7 e in
       let well : (n : ℕ) (p : Placed) → At n p (placed rs ws) → decodes p ≡ true = λ n p a. every-at decodes n p (placed rs ws) a d in
-      topmost time 7 (onTime time) (placed rs ws) o (λ n p a f. by-words s l t n p a ∙ simp (well n p a, f)) (λ n p a y z. let none : stateRefusal (machineOf (p .row .block)) time (p .words) ≡ 0 = simp (well n p a, y) in omega (arith, by-words s l t n p a, none, z))
+      topmost (ownNumber time) 7 (onTime time) (placed rs ws) o (λ n p a f. by-words s l t n p a ∙ simp (well n p a, f)) (λ n p a y z. let none : stateRefusal (machineOf (p .row .block)) time (p .words) ≡ 0 = simp (well n p a, y) in omega (arith, by-words s l t n p a, none, z))
 
 -- ---- a sheet of one row has its block's number
 module _ (r : Row) (ws : List ℕ) (reach : inReach r ≡ true) where

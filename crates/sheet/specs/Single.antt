@@ -8,7 +8,7 @@ use Rattle.dynamics.specs.Machine.{startRefusal, tickRefusal, startedWords, emi
 use Rattle.blocks.specs.Block.{machineOf, inputsOf, answerWords}
 use Rattle.blocks.specs.declared.block.Tick.{Tick}
 use Rattle.sheet.specs.Rows.{Placed, placed}
-use Rattle.sheet.specs.Sheet.{rowTick, twoWords}
+use Rattle.sheet.specs.Sheet.{tickNumber, rowTick, twoWords, tickLeft}
 use Rattle.sheet.specs.declared.row.Row.{Row}
 
 -- x stands at place n of a list, from 0
@@ -32,12 +32,30 @@ pub record TicksSingly (k : Tick) (rs : List Row) (p : Placed) (n : ℕ) (left o
   pub answers : take 2 (drop (2 * n) out) ≡ twoWords (answerWords (p .row .block) (emitAnswer (machineOf (p .row .block)) (k .time) (inputsOf (rowTick k (p .row))) (p .words)))
   pub leaves : At n (nowHas p (updatedWords (machineOf (p .row .block)) (k .time) (inputsOf (rowTick k (p .row))) (p .words))) (placed rs left)
 
--- row n is the topmost whose block, run singly on its own stretch, refuses the tick with this number
+-- ---- many ticks: the region after them, if all are accepted; and the words of a row's block that is run singly on the same ticks
+unfoldable pub sheetAfter : List Row → (space ws : List ℕ) → List Tick → List ℕ
+sheetAfter rs os ws [] = ws
+sheetAfter rs os ws (k ∷ ks) = sheetAfter rs os (tickLeft k rs ws os) ks
+
+unfoldable pub AllAccepted : List Row → (space ws : List ℕ) → List Tick → Type 0
+AllAccepted rs os ws [] = Unit {0}
+AllAccepted rs os ws (k ∷ ks) = (tickNumber (k .time) rs ws os ≡ 0) × AllAccepted rs os (tickLeft k rs ws os) ks
+
+unfoldable pub singlyAfter : Row → List ℕ → List Tick → List ℕ
+singlyAfter r w [] = w
+singlyAfter r w (k ∷ ks) = singlyAfter r (updatedWords (machineOf (r .block)) (k .time) (inputsOf (rowTick k r)) w) ks
+
+-- ---- the row at fault
+-- the number that a row's block, run singly on its own stretch, gives for a start and for a tick
+abbrev pub ownStart : Placed → ℕ
+ownStart p = startRefusal (machineOf (p .row .block)) (p .words)
+
 abbrev pub ownNumber : Float → Placed → ℕ
 ownNumber time p = tickRefusal (machineOf (p .row .block)) time (p .words)
 
-pub record Topmost (time : Float) (number n : ℕ) (ps : List Placed) : Type 0 where
+-- row n is the topmost whose own number is this
+pub record Topmost (own : Placed → ℕ) (number n : ℕ) (ps : List Placed) : Type 0 where
   pub row : Placed
   pub there : At n row ps
-  pub own : ownNumber time row ≡ number
-  pub above : (i : ℕ) (p : Placed) → At i p ps → i < n → ownNumber time p ≡ number → ⊥
+  pub its-own : own row ≡ number
+  pub above : (i : ℕ) (p : Placed) → At i p ps → i < n → own p ≡ number → ⊥

@@ -169,13 +169,13 @@ answerOf w = record { refusal = w .refusal; row = w .row; warning = not (eqb (w 
 abbrev pub noTick : Tick
 noTick = record { time = 0·0; words = replicate 8 0 }
 
-abbrev pub onward : (Walk → Walk) → Carried → Carried
-onward f c = carried (f (c .found)) (c .region) (c .answers)
+abbrev pub handedOn : (Walk → Walk) → Carried → Carried
+handedOn f c = carried (f (c .found)) (c .region) (c .answers)
 
 abbrev pub starting : List Row → List ℕ → Carried
-starting rs ws = walked noTick 0 rs (onward (λ w. surveyed w (length ws)) (walked noTick 0 rs (carried (begun (length rs) Survey) ws [])))
+starting rs ws = walked noTick 0 rs (handedOn (λ w. surveyed w (length ws)) (walked noTick 0 rs (carried (begun (length rs) Survey) ws [])))
 
 abbrev pub ticking : Tick → List Row → List ℕ → List ℕ → Carried
 ticking k rs ws os =
-    walked k 0 rs (onward (λ w. formed w (length rs) (length ws) (length os) (k .time))
+    walked k 0 rs (handedOn (λ w. formed w (length rs) (length ws) (length os) (k .time))
     (walked k 0 rs (carried (begun (length rs) Examine) ws os)))

@@ -1,3 +1,4 @@
+-- Laws of the soak clock.
 pub mod Cases
 pub mod Decoding
 pub mod Wiping

@@ -8,18 +8,18 @@ use lib.ListN.{getD}
 use lib.Ieee.{Float, binary64, fits, add, le}
 use lib.Ieee.Fits.{add-fits}
 use Rattle.reals.specs.Words.{0·0, flagOf}
-use Rattle.reals.proofs.Words.{flag-back, real-word}
 use Rattle.dynamics.specs.Previous.{soundPrevious, gap, isFirst}
 use Rattle.dynamics.specs.Leaves.{rising}
 use Rattle.dynamics.specs.Machine.{Tick}
 use Rattle.dynamics.specs.Stepped.{steppedMachine}
-use Rattle.dynamics.specs.History.{History, started, wiped, followed, previousIn, refusedAfter, grown, RetoldFromWiping, AlikeFromWiping, RetoldFromStart}
+use Rattle.dynamics.specs.History.{History, started, wiped, followed, previousIn, refusedAfter, grown, RetoldFromWiping, AlikeFromWiping, AnswersWiping, RetoldFromStart}
 use Rattle.dynamics.specs.declared.previous.Previous.the-variants.{Unset, At}
 use Rattle.dynamics.proofs.Gaps.{zero-nonneg, zero-f64, either, sum-nonneg, sum-keeps}
-use Rattle.dynamics.proofs.Histories.{Kept, newest-grown, time-back, grown-sound, from-wiping, from-start, alike}
+use Rattle.dynamics.proofs.Histories.{Kept, newest-grown, time-back, grown-sound, from-wiping, from-start, alike, answers-wiping}
 use Rattle.timer_accumulating.specs.TimerAccumulating.{machine, yNow, passedNow, next, advance, stateOf, wordsOf, outputs}
 use Rattle.timer_accumulating.specs.Account.{inputOf, resetOf, inputIn, wipes, total, stateAfter, account}
 use Rattle.timer_accumulating.specs.declared.TimerAccumulating.{TimerAccumulating}
+use Rattle.timer_accumulating.proofs.Decoding.{read-back}
 
 or-holds : (p q : Bool) → (T q → T p) → cond p true q ≡ p
 or-holds true q f = refl
@@ -80,8 +80,8 @@ module _ (k : Tick) (h : History) (g : Good h) (ok : refusedAfter k h ≡ 0) whe
 
   module _ (b : TimerAccumulating) where
     held : stateOf (wordsOf (stateAfter b h)) ≡ stateAfter b h
-    unfolding stateOf wordsOf stateAfter
-    held = simp (real-word (total h) (total-f64 h), time-back h, flag-back)
+    unfolding stateAfter
+    held = read-back (stateAfter b h) (total-f64 h) (time-back h)
 
     total-next : yNow (stateAfter b h) (k .time) (inputOf k) (wipes k h) ≡ total (grown wipes h k)
     unfolding yNow stateAfter sum
@@ -132,3 +132,8 @@ module _ (b : TimerAccumulating) where
 
   pub told-from-start : RetoldFromStart (machine b) (account b)
   told-from-start = from-start (machine b) (account b) Good kept
+
+  -- the wiping tick's own answer
+  pub wiping-answer : AnswersWiping (machine b) (account b)
+  unfolding steppedMachine
+  wiping-answer = answers-wiping (machine b) (account b) (λ h. outputs (stateAfter b h)) (λ k h. refl) (λ k w p. ap outputs (wiped-state k w (p .wiping)))

@@ -4,8 +4,10 @@ use mathlib.Core.List.{[]}
 use Prim.Native.Nat.{ℕ}
 use native.Mathlib.Omega.{arith}
 use lib.ListN.{length}
-use lib.Ieee.{ofBits}
-use Rattle.dynamics.specs.Previous.{previousOf}
+use lib.Dec.{T}
+use lib.Ieee.{binary64, fits, ofBits}
+use Rattle.reals.proofs.Words.{real-word, flag-back}
+use Rattle.dynamics.specs.Previous.{previousOf, wordOfPrevious}
 use Rattle.dynamics.specs.declared.previous.Previous.the-variants.{Unset}
 use Rattle.dynamics.proofs.Opening.{Enum}
 use Rattle.dynamics.proofs.Steps.{Opens}
@@ -39,6 +41,11 @@ decoded = record {
 pub counted : (b : TrueDelay) (s : State) → length (wordsOf s) ≡ 4
 unfolding wordsOf
 counted b s = refl
+
+-- a state of f64 numbers is read back as it was stored
+pub read-back : (s : State) → T (fits binary64 (s .timer)) → previousOf (wordOfPrevious (s .previous)) ≡ s .previous → stateOf (wordsOf s) ≡ s
+unfolding stateOf wordsOf
+read-back s timer time = simp (real-word (s .timer) timer, time, flag-back)
 
 -- a fresh one is read back with its previous time unset
 pub fresh-unset : (b : TrueDelay) → stateOf (wordsOf (initial)) .previous ≡ Unset

@@ -1,3 +1,4 @@
+-- Laws of the delay.
 pub mod Cases
 pub mod Decoding
 pub mod Wiping

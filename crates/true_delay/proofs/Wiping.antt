@@ -10,19 +10,19 @@ use lib.Ieee.Bits.{is-true}
 use lib.Ieee.Fits.{add-fits}
 use lib.Ieee.Scale.{finite}
 use Rattle.reals.specs.Words.{0·0}
-use Rattle.reals.proofs.Words.{flag-back, real-word}
 use Rattle.reals.proofs.Order.{lt-not-ge}
 use Rattle.dynamics.specs.Previous.{soundPrevious, gap, isFirst}
 use Rattle.dynamics.specs.Leaves.{positiveDuration, timed}
 use Rattle.dynamics.specs.Machine.{Tick}
 use Rattle.dynamics.specs.Stepped.{steppedMachine}
-use Rattle.dynamics.specs.History.{History, started, wiped, followed, previousIn, refusedAfter, grown, RetoldFromWiping, AlikeFromWiping, RetoldFromStart}
+use Rattle.dynamics.specs.History.{History, started, wiped, followed, previousIn, refusedAfter, grown, RetoldFromWiping, AlikeFromWiping, AnswersWiping, RetoldFromStart}
 use Rattle.dynamics.specs.declared.previous.Previous.the-variants.{Unset, At}
 use Rattle.dynamics.proofs.Gaps.{zero-nonneg, zero-f64, either, sum-nonneg, sum-keeps}
-use Rattle.dynamics.proofs.Histories.{Kept, forward, newest-grown, time-back, from-wiping, from-start, alike}
+use Rattle.dynamics.proofs.Histories.{Kept, forward, newest-grown, time-back, from-wiping, from-start, alike, answers-wiping}
 use Rattle.true_delay.specs.TrueDelay.{machine, outputAndTimer, next, advance, stateOf, wordsOf, outputs}
 use Rattle.true_delay.specs.Account.{inputOf, inputIn, wipes, sum, delay, atOnce, passes, timer, stateAfter, account}
 use Rattle.true_delay.specs.declared.TrueDelay.{TrueDelay}
+use Rattle.true_delay.proofs.Decoding.{read-back}
 
 -- The first tick: u is its input, i the setting delay_on_init, x the setting delay_time.
 first : (u i : Bool) (x : Float)
@@ -82,8 +82,8 @@ module _ (b : TrueDelay) (is-f64 : T (fits binary64 (b .«delay_time»))) where
   timer-f64 (followed h k) = either (λ x. T (fits binary64 x)) (atOnce b h || passes b h) delay-f64 (sum-f64 (followed h k))
 
   held : (h : History) → stateOf (wordsOf (stateAfter b h)) ≡ stateAfter b h
-  unfolding stateOf wordsOf stateAfter
-  held h = simp (real-word (timer b h) (timer-f64 h), time-back h, flag-back)
+  unfolding stateAfter
+  held h = read-back (stateAfter b h) (timer-f64 h) (time-back h)
 
   -- what is known of a history: its newest tick was accepted; its sum is not negative; what passes at once after the first tick has a
   -- true input; the timer is the sum until the output is true
@@ -187,3 +187,8 @@ module _ (b : TrueDelay) (is-f64 : T (fits binary64 (b .«delay_time»))) where
 
   pub told-from-start : RetoldFromStart (machine b) (account b)
   told-from-start = from-start (machine b) (account b) Good kept
+
+  -- the wiping tick's own answer
+  pub wiping-answer : AnswersWiping (machine b) (account b)
+  unfolding steppedMachine
+  wiping-answer = answers-wiping (machine b) (account b) (λ h. outputs (stateAfter b h)) (λ k h. refl) (λ k w p. ap outputs (wiped-state k w (p .wiping)))

@@ -1,3 +1,4 @@
+-- Laws of the hold with reset.
 pub mod Cases
 pub mod Decoding
 pub mod Durations

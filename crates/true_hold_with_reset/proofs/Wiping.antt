@@ -7,21 +7,21 @@ use lib.Dec.{T}
 use lib.Ieee.{Float, binary64, fits, add, lt, le}
 use lib.Ieee.Fits.{add-fits}
 use Rattle.reals.specs.Words.{0·0}
-use Rattle.reals.proofs.Words.{flag-back, real-word}
 use Rattle.dynamics.specs.Previous.{soundPrevious, gap, isFirst}
 use Rattle.dynamics.specs.Leaves.{positiveDuration, timed}
 use Rattle.dynamics.specs.Machine.{Tick}
 use Rattle.dynamics.specs.Stepped.{steppedMachine}
-use Rattle.dynamics.specs.History.{History, started, wiped, followed, previousIn, refusedAfter, grown, RetoldFromWiping, AlikeFromWiping, RetoldFromStart}
+use Rattle.dynamics.specs.History.{History, started, wiped, followed, previousIn, refusedAfter, grown, RetoldFromWiping, AlikeFromWiping, AnswersWiping, RetoldFromStart}
 use Rattle.dynamics.specs.declared.leaf.Timed.{Timed}
 use Rattle.dynamics.specs.declared.previous.Previous.the-variants.{Unset, At}
 use Rattle.dynamics.proofs.Gaps.{zero-nonneg, zero-f64, either, sum-nonneg}
-use Rattle.dynamics.proofs.Histories.{Kept, newest-grown, time-back, grown-sound, from-wiping, from-start, alike}
+use Rattle.dynamics.proofs.Histories.{Kept, newest-grown, time-back, grown-sound, from-wiping, from-start, alike, answers-wiping}
 use Rattle.hold.specs.Hold.{stateOf, wordsOf, outputs}
 use Rattle.true_hold_with_reset.specs.TrueHoldWithReset.{machine, runTime, holds, outputAndTimer, next, advance}
 use Rattle.true_hold_with_reset.specs.Account.{Run, inputOf, clearOf, wipes, onward, hold, stateAfter, account}
 use Rattle.true_hold_with_reset.specs.declared.TrueHoldWithReset.{TrueHoldWithReset}
 use Rattle.true_hold_with_reset.proofs.Durations.{below-positive}
+use Rattle.hold.proofs.Decoding.{read-back}
 
 abbrev off : Timed
 off = timed false 0·0
@@ -69,9 +69,8 @@ module _ (b : TrueHoldWithReset) where
     pub nonneg : T (le 0·0 (hold b h .sum))
 
   held : (h : History) → stateOf (wordsOf (stateAfter b h)) ≡ stateAfter b h
-  unfolding stateOf wordsOf stateAfter
-  held h =
-      simp (real-word (cond (hold b h .on) (hold b h .sum) 0·0) (either (λ x. T (fits binary64 x)) (hold b h .on) (sum-f64 h) zero-f64), time-back h, flag-back)
+  unfolding stateAfter
+  held h = read-back (stateAfter b h) (either (λ x. T (fits binary64 x)) (hold b h .on) (sum-f64 h) zero-f64) (time-back h)
 
   module _ (k : Tick) (h : History) (g : Good h) (ok : refusedAfter k h ≡ 0) where
     nonneg-next : T (le 0·0 (hold b (followed h k) .sum))
@@ -142,3 +141,8 @@ module _ (b : TrueHoldWithReset) where
 
   pub told-from-start : RetoldFromStart (machine b) (account b)
   told-from-start = from-start (machine b) (account b) Good kept
+
+  -- the wiping tick's own answer
+  pub wiping-answer : AnswersWiping (machine b) (account b)
+  unfolding steppedMachine
+  wiping-answer = answers-wiping (machine b) (account b) (λ h. outputs (stateAfter b h)) (λ k h. refl) (λ k w p. ap outputs (wiped-state k w (p .wiping)))

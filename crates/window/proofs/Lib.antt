@@ -1,2 +1,4 @@
+-- Laws of a window's size.
 pub mod Sizes
 pub mod Slots
+pub mod OneResult

@@ -42,7 +42,7 @@ use denote.Exit.{yes}
 use Rattle.blocks.specs.declared.block.Tick.{Tick}
 use Rattle.blocks.proofs.block.Tick as T
 use Rattle.blocks.proofs.block.Tick.Laws as T′
-use Rattle.sheet.specs.Walk.{Carried, carried, walked, onward, begun, surveyed, answerOf, noTick, Left}
+use Rattle.sheet.specs.Walk.{Carried, carried, walked, handedOn, begun, surveyed, answerOf, noTick, Left}
 use Rattle.sheet.specs.Sheet.{SheetStarted}
 use Rattle.sheet.specs.declared.row.Row.{Row}
 use Rattle.sheet.specs.declared.row.SheetAnswer.{SheetAnswer}
@@ -84,7 +84,7 @@ so : (rs : List Row) (ws : List ℕ) {k : Tick} {w₁ w₂ w₃ w₄ : Walk} {ws
     → k ≡ noTick → w₁ ≡ begun (length rs) Survey → Left (walked k 0 rs (carried w₁ ws [])) w₂ ws₂ os₂ → w₃ ≡ surveyed w₂ (length ws) → Left (walked k 0 rs (carried w₃ ws₂ os₂)) w₄ ws₄ os₄ → r ≡ answerOf w₄ → SheetStarted rs ws r ws₄
 so rs ws {k} {w₁} e₀ e₁ l₂ e₃ l₄ e =
     let c = walks-on k rs (λ w. surveyed w (length ws)) (walks-on k rs (λ _. begun (length rs) Survey) {w = w₁} refl e₁ l₂) e₃ l₄
-    ∙ ap (λ (t : Tick). walked t 0 rs (onward (λ w. surveyed w (length ws)) (walked t 0 rs (carried (begun (length rs) Survey) ws [])))) e₀ in
+    ∙ ap (λ (t : Tick). walked t 0 rs (handedOn (λ w. surveyed w (length ws)) (walked t 0 rs (carried (begun (length rs) Survey) ws [])))) e₀ in
     let said = start-is rs ws in
     record { answer = e ∙ ap (λ (c : Carried). answerOf (c .found)) c ∙ said .answer; region = ap (λ (c : Carried). c .region) c ∙ said .region }
 

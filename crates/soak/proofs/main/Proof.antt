@@ -27,8 +27,10 @@ take-turn-requires c κs =
 
 loop-again : tie.Need-loop-again Inv-loop μ-loop
 loop-again c =
-    let l = c .before .before .before .before .before .before .before .before .before .before .before .before .before .before .loop in
-    let t = c .before .before .before .before .before .before .before .take-turn in
+    let at-take-turn = c .before .before .before .before .before .before .before in
+    let at-loop = at-take-turn .before .before .before .before .before .before .before in
+    let l = at-loop .loop in
+    let t = at-take-turn .take-turn in
     let w = l .inv .2 in (
       l .inv .0 ∙ sym (t .kept .1 .1 .1 .1 .0),
       l .inv .1 ∙ sym (t .kept .1 .1 .1 .1 .1 .0),

@@ -9,11 +9,15 @@ use Rattle.soak.proofs.take_turn.Tie as tie
 
 returns : tie.Need-returns
 returns c =
-    let a = c .before .before .before .before .before .before .before .before .before .before .before .before .before .before .before .before .before .args in
-    let r = c .before .before .before .before .before .before .before .before .before .before .before .before .before .read in
-    let n = c .before .before .before .before .before .before .before .before .before .count in
-    let f = c .before .before .before .before .feed in
-    let room : 32 * length (r .last .1 .0) ≤ length (a .out .now) = omega (arith, r .kept .1 .0, c .before .before .before .before .before .before .before .before .before .before .before .before .before .before .before .before .before .pre .1) in
+    let at-feed = c .before .before .before .before in
+    let at-count = at-feed .before .before .before .before .before in
+    let at-read = at-count .before .before .before .before in
+    let start = at-read .before .before .before .before in
+    let a = start .args in
+    let r = at-read .read in
+    let n = at-count .count in
+    let f = at-feed .feed in
+    let room : 32 * length (r .last .1 .0) ≤ length (a .out .now) = omega (arith, r .kept .1 .0, start .pre .1) in
     turn-taken (a .session) (a .held) (a .carry .now) (a .region .now) (r .last .1 .0) (n .result) (n .ensures .0 .0) room (f .ensures .0) (f .ensures .1 .0)
 
 pub take-turn-spec : {M : Type 1} → statement M

@@ -12,7 +12,10 @@ returns c = rw (← c .before .before .before .block-of .ensures, c .before .enu
 
 returns-2 : tie.Need-returns-2
 unfolding byName
-returns-2 c = rw (← c .before .before .before .before .before .before .block-of .ensures, c .before .before .before .before .named .given .1, ← c .before .before .tick-of .ensures .at-time, ← c .before .before .tick-of .ensures .inputs) (c .answer-words .ensures ∙ ap answerCrossed (c .before .emit .ensures))
+returns-2 c =
+    let at-named = c .before .before .before .before in
+    let at-block-of = at-named .before .before in
+    rw (← at-block-of .block-of .ensures, at-named .named .given .1, ← c .before .before .tick-of .ensures .at-time, ← c .before .before .tick-of .ensures .inputs) (c .answer-words .ensures ∙ ap answerCrossed (c .before .emit .ensures))
 
 pub oven-emit-spec : {M : Type 1} → statement M
 oven-emit-spec = tie.close (tie.spec (λ c κs. search needs) (λ c. search needs) (λ c. search needs) (λ c κs. search needs) returns (λ c κs. search needs) (λ c κs. search needs) (λ c κs. search needs) returns-2)

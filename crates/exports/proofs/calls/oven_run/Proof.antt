@@ -11,7 +11,11 @@ returns c = rw (← c .before .before .block-of .ensures, c .enum-told .given .1
 
 returns-2 : tie.Need-returns-2
 unfolding byName
-returns-2 c = rw (← c .before .before .before .before .before .before .before .before .before .before .block-of .ensures, c .before .before .before .before .before .before .before .before .named .given .1) (record { number = c .before .before .before .before .run .ensures .number; leaves = c .before .before .before .before .run .ensures .leaves; says = c .before .before .before .before .run .ensures .says })
+returns-2 c =
+    let at-run = c .before .before .before .before in
+    let at-named = at-run .before .before .before .before in
+    let at-block-of = at-named .before .before in
+    rw (← at-block-of .block-of .ensures, at-named .named .given .1) (record { number = at-run .run .ensures .number; leaves = at-run .run .ensures .leaves; says = at-run .run .ensures .says })
 
 pub oven-run-spec : {M : Type 1} → statement M
 oven-run-spec = tie.close (tie.spec (λ c κs. search needs) (λ c. search needs) (λ c. search needs) returns (λ c κs. search needs) (λ c. search needs) (λ c. search needs) returns-2)

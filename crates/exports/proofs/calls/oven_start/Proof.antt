@@ -11,7 +11,10 @@ returns c = rw (← c .before .before .block-of .ensures, c .enum-told .given .1
 
 returns-2 : tie.Need-returns-2
 unfolding byName
-returns-2 c = rw (← c .before .before .before .before .before .before .before .block-of .ensures, c .before .before .before .before .before .named .given .1) (c .before .before .start .ensures)
+returns-2 c =
+    let at-named = c .before .before .before .before .before in
+    let at-block-of = at-named .before .before in
+    rw (← at-block-of .block-of .ensures, at-named .named .given .1) (c .before .before .start .ensures)
 
 pub oven-start-spec : {M : Type 1} → statement M
 oven-start-spec = tie.close (tie.spec (λ c κs. search needs) (λ c. search needs) (λ c. search needs) returns (λ c κs. search needs) (λ c. search needs) returns-2)

@@ -48,15 +48,17 @@ slice-aggregate-block-of c =
 
 returns-3 : tie.Need-returns-3
 returns-3 c =
+    let at-if2 = c .before .before .before .before in
+    let at-before = at-if2 .before in
     let n = c .before .before .settings-of in
-    let at-read = c .before .before .before .before .before .before in
+    let at-read = at-before .before in
     let v = at-read .read-settings in
     let number = at-read .before .number-for in
     let at-end = at-read .before .before .before in
     c .block-of .ensures
     ∙ first-named (at-end .before .before .before .args .line .now) (at-end .end-of .result) (number .result) (v .result)
     (at-end .before .if1 .left) (at-end .end-of .ensures .0) (number .ensures) (v .ensures)
-    (not-false (v .result .ok) (c .before .before .before .before .if2 .left)) (n .result) (n .ensures)
+    (not-false (v .result .ok) (at-if2 .if2 .left)) (n .result) (n .ensures)
 
 pub first-line-spec : {M : Type 1} → statement M
 first-line-spec =

@@ -1,156 +1,101 @@
 -- `first::number_for` meets its contract: the names are tried in the order of the table. Assumes nothing.
+use Prim.Native.Nat.{ℕ, zero, suc}
+use mathlib.Core.Path.{_≡_, refl, sym, _∙_}
+use mathlib.Core.Bool.{true, false}
+use mathlib.Core.List.{List, _∷_}
 use borrow.Author.Needs.{needs}
-use Rattle.lines.specs.Forms.{rowsBefore}
+use lib.ListN.{drop}
+use Rattle.text.specs.Bytes.{sameList}
+use Rattle.lines.specs.Forms.{forms, formAt, rowsBefore, numberFor}
 use Rattle.lines.proofs.first.number_for.Statement.{statement}
 use Rattle.lines.proofs.first.number_for.Tie as tie
 
+-- n more
+abbrev more : ℕ → ℕ → ℕ
+more zero x = x
+more (suc n) x = suc (more n x)
+
+-- past the first n names: as many rows come before the name's own
+abbrev Past : ℕ → List ℕ → Type 0
+Past n name = more n (rowsBefore name (drop n forms)) ≡ numberFor name
+
+-- row n is the name's own, or it is passed too
+module _ (name : List ℕ) (n : ℕ) (rest : drop n forms ≡ formAt n ∷ drop (suc n) forms) (past : Past n name) where
+  found : sameList name (formAt n .name) ≡ true → more n 0 ≡ numberFor name
+  unfolding rowsBefore
+  found e = rw (rest, e) at past
+
+  passed : sameList name (formAt n .name) ≡ false → more n (suc (rowsBefore name (drop (suc n) forms))) ≡ numberFor name
+  unfolding rowsBefore
+  passed e = rw (rest, e) at past
+
+-- the name, seen past each row
+abbrev name1 : tie.Else1 → List ℕ
+name1 c = c .before .before .before .before .args .name .now
+
+abbrev name2 : tie.Else2 → List ℕ
+name2 c = name1 (c .before .before .before)
+
+abbrev name3 : tie.Else3 → List ℕ
+name3 c = name2 (c .before .before .before)
+
+abbrev name4 : tie.Else4 → List ℕ
+name4 c = name3 (c .before .before .before)
+
+abbrev name5 : tie.Else5 → List ℕ
+name5 c = name4 (c .before .before .before)
+
+abbrev name6 : tie.Else6 → List ℕ
+name6 c = name5 (c .before .before .before)
+
+abbrev name7 : tie.Else7 → List ℕ
+name7 c = name6 (c .before .before .before)
+
+past1 : (c : tie.Else1) → Past 1 (name1 c)
+past1 c = passed _ 0 refl refl (sym (c .before .same .ensures) ∙ c .if1 .left)
+
+past2 : (c : tie.Else2) → Past 2 (name2 c)
+past2 c = passed _ 1 refl (past1 (c .before .before .before)) (sym (c .before .same2 .ensures) ∙ c .if2 .left)
+
+past3 : (c : tie.Else3) → Past 3 (name3 c)
+past3 c = passed _ 2 refl (past2 (c .before .before .before)) (sym (c .before .same3 .ensures) ∙ c .if3 .left)
+
+past4 : (c : tie.Else4) → Past 4 (name4 c)
+past4 c = passed _ 3 refl (past3 (c .before .before .before)) (sym (c .before .same4 .ensures) ∙ c .if4 .left)
+
+past5 : (c : tie.Else5) → Past 5 (name5 c)
+past5 c = passed _ 4 refl (past4 (c .before .before .before)) (sym (c .before .same5 .ensures) ∙ c .if5 .left)
+
+past6 : (c : tie.Else6) → Past 6 (name6 c)
+past6 c = passed _ 5 refl (past5 (c .before .before .before)) (sym (c .before .same6 .ensures) ∙ c .if6 .left)
+
+past7 : (c : tie.Else7) → Past 7 (name7 c)
+past7 c = passed _ 6 refl (past6 (c .before .before .before)) (sym (c .before .same7 .ensures) ∙ c .if7 .left)
+
 returns : tie.Need-returns
-unfolding rowsBefore
-returns c = rw (← c .before .same .ensures, c .if1 .taken)
+returns c = found _ 0 refl refl (sym (c .before .same .ensures) ∙ c .if1 .taken)
 
 returns-2 : tie.Need-returns-2
-unfolding rowsBefore
-returns-2 c =
-    let at2 = c .before in
-    let at1 = at2 .before .before .before in
-    rw (
-      ← at1 .same .ensures,
-      at2 .before .before .if1 .left,
-      ← at2 .same2 .ensures,
-      c .if2 .taken,
-    )
+returns-2 c = found _ 1 refl (past1 (c .before .before .before)) (sym (c .before .same2 .ensures) ∙ c .if2 .taken)
 
 returns-3 : tie.Need-returns-3
-unfolding rowsBefore
-returns-3 c =
-    let at3 = c .before in
-    let at2 = at3 .before .before .before in
-    let at1 = at2 .before .before .before in
-    rw (
-      ← at1 .same .ensures,
-      at2 .before .before .if1 .left,
-      ← at2 .same2 .ensures,
-      at3 .before .before .if2 .left,
-      ← at3 .same3 .ensures,
-      c .if3 .taken,
-    )
+returns-3 c = found _ 2 refl (past2 (c .before .before .before)) (sym (c .before .same3 .ensures) ∙ c .if3 .taken)
 
 returns-4 : tie.Need-returns-4
-unfolding rowsBefore
-returns-4 c =
-    let at4 = c .before in
-    let at3 = at4 .before .before .before in
-    let at2 = at3 .before .before .before in
-    let at1 = at2 .before .before .before in
-    rw (
-      ← at1 .same .ensures,
-      at2 .before .before .if1 .left,
-      ← at2 .same2 .ensures,
-      at3 .before .before .if2 .left,
-      ← at3 .same3 .ensures,
-      at4 .before .before .if3 .left,
-      ← at4 .same4 .ensures,
-      c .if4 .taken,
-    )
+returns-4 c = found _ 3 refl (past3 (c .before .before .before)) (sym (c .before .same4 .ensures) ∙ c .if4 .taken)
 
 returns-5 : tie.Need-returns-5
-unfolding rowsBefore
-returns-5 c =
-    let at5 = c .before in
-    let at4 = at5 .before .before .before in
-    let at3 = at4 .before .before .before in
-    let at2 = at3 .before .before .before in
-    let at1 = at2 .before .before .before in
-    rw (
-      ← at1 .same .ensures,
-      at2 .before .before .if1 .left,
-      ← at2 .same2 .ensures,
-      at3 .before .before .if2 .left,
-      ← at3 .same3 .ensures,
-      at4 .before .before .if3 .left,
-      ← at4 .same4 .ensures,
-      at5 .before .before .if4 .left,
-      ← at5 .same5 .ensures,
-      c .if5 .taken,
-    )
+returns-5 c = found _ 4 refl (past4 (c .before .before .before)) (sym (c .before .same5 .ensures) ∙ c .if5 .taken)
 
 returns-6 : tie.Need-returns-6
-unfolding rowsBefore
-returns-6 c =
-    let at6 = c .before in
-    let at5 = at6 .before .before .before in
-    let at4 = at5 .before .before .before in
-    let at3 = at4 .before .before .before in
-    let at2 = at3 .before .before .before in
-    let at1 = at2 .before .before .before in
-    rw (
-      ← at1 .same .ensures,
-      at2 .before .before .if1 .left,
-      ← at2 .same2 .ensures,
-      at3 .before .before .if2 .left,
-      ← at3 .same3 .ensures,
-      at4 .before .before .if3 .left,
-      ← at4 .same4 .ensures,
-      at5 .before .before .if4 .left,
-      ← at5 .same5 .ensures,
-      at6 .before .before .if5 .left,
-      ← at6 .same6 .ensures,
-      c .if6 .taken,
-    )
+returns-6 c = found _ 5 refl (past5 (c .before .before .before)) (sym (c .before .same6 .ensures) ∙ c .if6 .taken)
 
 returns-7 : tie.Need-returns-7
-unfolding rowsBefore
-returns-7 c =
-    let at7 = c .before in
-    let at6 = at7 .before .before .before in
-    let at5 = at6 .before .before .before in
-    let at4 = at5 .before .before .before in
-    let at3 = at4 .before .before .before in
-    let at2 = at3 .before .before .before in
-    let at1 = at2 .before .before .before in
-    rw (
-      ← at1 .same .ensures,
-      at2 .before .before .if1 .left,
-      ← at2 .same2 .ensures,
-      at3 .before .before .if2 .left,
-      ← at3 .same3 .ensures,
-      at4 .before .before .if3 .left,
-      ← at4 .same4 .ensures,
-      at5 .before .before .if4 .left,
-      ← at5 .same5 .ensures,
-      at6 .before .before .if5 .left,
-      ← at6 .same6 .ensures,
-      at7 .before .before .if6 .left,
-      ← at7 .same7 .ensures,
-      c .if7 .taken,
-    )
+returns-7 c = found _ 6 refl (past6 (c .before .before .before)) (sym (c .before .same7 .ensures) ∙ c .if7 .taken)
 
 returns-8 : tie.Need-returns-8
 unfolding rowsBefore
-returns-8 c =
-    let at7 = c .before in
-    let at6 = at7 .before .before .before in
-    let at5 = at6 .before .before .before in
-    let at4 = at5 .before .before .before in
-    let at3 = at4 .before .before .before in
-    let at2 = at3 .before .before .before in
-    let at1 = at2 .before .before .before in
-    rw (
-      ← at1 .same .ensures,
-      at2 .before .before .if1 .left,
-      ← at2 .same2 .ensures,
-      at3 .before .before .if2 .left,
-      ← at3 .same3 .ensures,
-      at4 .before .before .if3 .left,
-      ← at4 .same4 .ensures,
-      at5 .before .before .if4 .left,
-      ← at5 .same5 .ensures,
-      at6 .before .before .if5 .left,
-      ← at6 .same6 .ensures,
-      at7 .before .before .if6 .left,
-      ← at7 .same7 .ensures,
-      c .if7 .left,
-    )
+returns-8 c = past7 c
 
 pub number-for-spec : {M : Type 1} → statement M
 number-for-spec =

@@ -4,7 +4,7 @@ use mathlib.Core.Path.{_≡_, sym, _∙_}
 use borrow.Author.Needs.{needs}
 use native.Mathlib.Omega.{arith}
 use lib.ListN.{length, drop, length-set}
-use Rattle.lines.specs.Values.{itemsFrom, wordsOf, laidOut}
+use Rattle.lines.specs.Values.{itemsFrom, wordsSaid, laidOut}
 use Rattle.lines.proofs.Words.{filled, filled-zeros, filled-short, filled-word, filled-bad, filled-over, filled-end}
 use Rattle.lines.proofs.values.read_values.Statement.{statement}
 use Rattle.lines.proofs.values.read_values.Tie as tie
@@ -13,7 +13,7 @@ abbrev Inv-loop : tie.InvT-loop
 Inv-loop line at classes words₀ next₀ j₀ words next j =
     (j ≤ length classes)
     × (length words ≡ 16)
-    × (filled words j (wordsOf (drop j classes) (itemsFrom line next)) ≡ laidOut (wordsOf classes (itemsFrom line at)))
+    × (filled words j (wordsSaid (drop j classes) (itemsFrom line next)) ≡ laidOut (wordsSaid classes (itemsFrom line at)))
 
 abbrev μ-loop : tie.MeasureT-loop
 μ-loop line at classes words₀ next₀ j₀ words next j = length classes - j

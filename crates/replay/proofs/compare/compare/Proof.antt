@@ -13,15 +13,23 @@ stored-at-requires c κs = laid-at _ _ _ _ _ _ _ _ (c .before .laid .given .1) (
 
 returns-5 : tie.Need-returns-5
 returns-5 c =
-    agrees _ _ _ _ _ (length (c .before .before .before .before .before .before .before .before .before .before .before .before .before .before .before .before .before .before .before .before .before .before .before .before .before .before .before .before .before .args .region .now)) (length (c .before .before .before .before .before .before .before .before .before .updates .last .1 .1 .0)) _ _ _ _ _ _
-    (laid-at _ _ _ _ _ _ _ _ (c .before .before .before .before .before .before .before .before .before .before .before .before .before .before .before .before .before .laid .given .1) (c .before .before .before .before .before .before .before .before .before .before .before .before .before .before .before .before .before .before .before .before .before .before .before .lay-out .ensures))
-    (c .before .before .before .before .before .before .before .before .before .before .before .before .before .before .before .stored-at .ensures)
-    (c .before .before .before .before .before .before .before .before .before .before .before .before .before .emits .ensures)
-    (not-false _ (c .before .before .before .before .before .before .before .before .before .before .before .before .if1 .left))
-    (c .before .before .before .before .before .before .before .before .before .updates .ensures)
-    (not-false _ (c .before .before .before .before .before .before .if2 .left))
+    let at-if2 = c .before .before .before .before .before .before in
+    let at-updates = at-if2 .before .before .before in
+    let at-if1 = at-updates .before .before .before in
+    let at-emits = at-if1 .before in
+    let at-stored-at = at-emits .before .before in
+    let at-laid = at-stored-at .before .before in
+    let at-lay-out = at-laid .before .before .before .before .before .before in
+    let start = at-lay-out .before .before .before .before .before .before in
+    agrees _ _ _ _ _ (length (start .args .region .now)) (length (at-updates .updates .last .1 .1 .0)) _ _ _ _ _ _
+    (laid-at _ _ _ _ _ _ _ _ (at-laid .laid .given .1) (at-lay-out .lay-out .ensures))
+    (at-stored-at .stored-at .ensures)
+    (at-emits .emits .ensures)
+    (not-false _ (at-if1 .if1 .left))
+    (at-updates .updates .ensures)
+    (not-false _ (at-if2 .if2 .left))
     (c .before .before .before .ticks-afresh .ensures (not-false _ (c .if3 .left)))
-    (omega (arith, c .before .before .before .before .before .before .before .before .before .updates .kept, c .before .before .before .before .before .before .before .before .before .before .before .before .before .before .before .before .before .before .before .before .before .before .before .lay-out .kept))
+    (omega (arith, at-updates .updates .kept, at-lay-out .lay-out .kept))
 
 pub compare-spec : {M : Type 1} → statement M
 compare-spec =

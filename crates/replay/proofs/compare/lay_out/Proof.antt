@@ -7,13 +7,18 @@ use Rattle.replay.proofs.compare.lay_out.Tie as tie
 
 returns-6 : tie.Need-returns-6
 returns-6 c =
-    laid-out _ _ _ _ _ _ _ _ (c .before .before .before .before .before .before .before .before .before .before .before .before .before .before .before .before .before .before .before .before .put-afresh .last .1 .1 .1 .0) (c .before .before .before .before .before .before .before .before .before .before .before .before .before .before .before .before .before .before .before .before .before .before .before .before .before .args .expected .now) _ _
-    (c .before .before .before .before .before .before .before .before .before .before .before .before .before .before .before .before .old .given .1)
-    (c .before .before .before .before .before .before .before .before .before .before .before .before .before .before .before .before .before .before .before .before .put-afresh .ensures)
-    (c .before .before .before .before .before .before .before .before .before .before .store .ensures)
-    (omega (arith, c .before .before .before .before .before .before .before .before .before .before .before .before .before .before .before .before .before .before .before .before .before .before .before .before .before .pre, c .before .before .before .before .before .before .before .before .before .before .before .before .before .before .before .before .before .before .before .before .put-afresh .kept))
+    let at-put = c .before .before .before .before .before .before in
+    let at-store = at-put .before .before .before .before in
+    let at-old = at-store .before .before .before .before .before .before in
+    let at-put-afresh = at-old .before .before .before .before in
+    let start = at-put-afresh .before .before .before .before .before in
+    laid-out _ _ _ _ _ _ _ _ (at-put-afresh .put-afresh .last .1 .1 .1 .0) (start .args .expected .now) _ _
+    (at-old .old .given .1)
+    (at-put-afresh .put-afresh .ensures)
+    (at-store .store .ensures)
+    (omega (arith, start .pre, at-put-afresh .put-afresh .kept))
     (c .before .before .new .given .1)
-    (c .before .before .before .before .before .before .put .ensures)
+    (at-put .put .ensures)
     (c .if3 .left)
     (omega arith)
 

@@ -9,7 +9,11 @@ returns : tie.Need-returns
 returns c = λ e. never-true _ e
 
 returns-2 : tie.Need-returns-2
-returns-2 c = λ e. ticked-afresh _ _ _ _ _ (length (c .before .before .before .before .before .before .before .before .before .before .before .before .before .args .region .now)) _ _ _ _ _ _ (c .before .before .before .before .enum-told .given .1) (c .before .before .before .before .before .before .before .before .put-afresh .ensures) (c .before .before .ticks .ensures) e
+returns-2 c =
+    let at-enum-told = c .before .before .before .before in
+    let at-put-afresh = at-enum-told .before .before .before .before in
+    let start = at-put-afresh .before .before .before .before .before in
+    λ e. ticked-afresh _ _ _ _ _ (length (start .args .region .now)) _ _ _ _ _ _ (at-enum-told .enum-told .given .1) (at-put-afresh .put-afresh .ensures) (c .before .before .ticks .ensures) e
 
 pub ticks-afresh-spec : {M : Type 1} → statement M
 ticks-afresh-spec =

@@ -8,7 +8,11 @@ use Rattle.replay.proofs.list.replay_line.Statement.{statement}
 use Rattle.replay.proofs.list.replay_line.Tie as tie
 
 returns : tie.Need-returns
-returns c = line-shown (c .before .before .before .before .before .before .before .before .before .before .before .before .before .before .args .form) _ _ _ (c .before .before .before .before .replay .result) (c .before .before .before .before .before .before .before .before .before .read-words .ensures) (c .before .before .before .before .replay .ensures)
+returns c =
+    let at-replay = c .before .before .before .before in
+    let at-read-words = at-replay .before .before .before .before .before in
+    let start = at-read-words .before .before .before .before .before in
+    line-shown (start .args .form) _ _ _ (at-replay .replay .result) (at-read-words .read-words .ensures) (at-replay .replay .ensures)
 
 pub replay-line-spec : {M : Type 1} → statement M
 replay-line-spec =

@@ -29,14 +29,18 @@ add-at c = record { fits = omega (arith, c .before .before .before .before .befo
 
 loop-again : tie.Need-loop-again Inv-loop μ-loop
 loop-again c =
-    let l = c .before .before .before .before .before .before .before .before .before .before .before .before .loop in
-    let a = c .before .before .before .before .before .before .before .before .before .before .before .before .before .before .before .before .before .args in (
-      omega (arith, c .before .before .before .before .before .before .before .before .before .before .end-of .ensures .1 (omega arith)),
+    let at-replay-line = c .before .before .before .before .before .before in
+    let at-end-of = at-replay-line .before .before .before .before in
+    let at-loop = at-end-of .before .before in
+    let start = at-loop .before .before .before .before .before in
+    let l = at-loop .loop in
+    let a = start .args in (
+      omega (arith, at-end-of .end-of .ensures .1 (omega arith)),
       search needs,
       search needs,
       search needs,
       search needs,
-      λ e h. l .inv .5 (omega arith) (one-more (a .form) (a .lines .now) (l .at) (c .before .before .before .before .before .before .before .before .before .before .end-of .result) (c .before .tell .result) (c .before .before .before .before .before .before .replay-line .result) (c .before .before .before .before .before .before .before .before .before .before .end-of .ensures .0) (c .before .before .before .before .before .before .replay-line .ensures) (c .before .tell .ensures .0) (omega arith) h),
+      λ e h. l .inv .5 (omega arith) (one-more (a .form) (a .lines .now) (l .at) (at-end-of .end-of .result) (c .before .tell .result) (at-replay-line .replay-line .result) (at-end-of .end-of .ensures .0) (at-replay-line .replay-line .ensures) (c .before .tell .ensures .0) (omega arith) h),
     )
 
 returns : tie.Need-returns Inv-loop μ-loop
@@ -46,9 +50,13 @@ returns c =
 
 returns-2 : tie.Need-returns-2 Inv-loop μ-loop
 returns-2 c =
-    let l = c .before .before .before .before .before .before .before .before .before .before .before .before .loop in
-    let a = c .before .before .before .before .before .before .before .before .before .before .before .before .before .before .before .before .before .args in
-    (search needs, λ e. l .inv .5 (omega arith) (one-more (a .form) (a .lines .now) (l .at) (c .before .before .before .before .before .before .before .before .before .before .end-of .result) (c .before .tell .result) (c .before .before .before .before .before .before .replay-line .result) (c .before .before .before .before .before .before .before .before .before .before .end-of .ensures .0) (c .before .before .before .before .before .before .replay-line .ensures) (c .before .tell .ensures .0) (omega arith) (none (omega arith))))
+    let at-replay-line = c .before .before .before .before .before .before in
+    let at-end-of = at-replay-line .before .before .before .before in
+    let at-loop = at-end-of .before .before in
+    let start = at-loop .before .before .before .before .before in
+    let l = at-loop .loop in
+    let a = start .args in
+    (search needs, λ e. l .inv .5 (omega arith) (one-more (a .form) (a .lines .now) (l .at) (at-end-of .end-of .result) (c .before .tell .result) (at-replay-line .replay-line .result) (at-end-of .end-of .ensures .0) (at-replay-line .replay-line .ensures) (c .before .tell .ensures .0) (omega arith) (none (omega arith))))
 
 pub replay-lines-spec : {M : Type 1} → statement M
 replay-lines-spec =

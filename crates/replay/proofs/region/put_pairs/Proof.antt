@@ -22,8 +22,10 @@ loop-holds c = (omega arith, refl, refl, refl)
 
 loop-again : tie.Need-loop-again Inv-loop μ-loop
 loop-again c =
-    let l = c .before .before .before .before .before .loop in
-    let words = c .before .before .before .before .before .before .before .before .args .words .now in (
+    let at-loop = c .before .before .before .before .before in
+    let start = at-loop .before .before .before in
+    let l = at-loop .loop in
+    let words = start .args .words .now in (
       omega arith,
       simp length-set (l .inv .1),
       omega arith,

@@ -7,9 +7,12 @@ use Rattle.session.proofs.answer.put_boolean.Tie as tie
 
 returns : tie.Need-returns
 returns c =
+    let at-put-byte = c .before .before .before .before .before .before in
+    let at-flag-digit = at-put-byte .before in
+    let start = at-flag-digit .before .before .before in
     put-as
-    (boolean-line (c .before .before .before .before .before .before .before .before .before .before .args .answer) (c .before .before .before .before .before .before .before .flag-digit .ensures))
-    (put-more (c .before .before .before .before .before .before .put-byte .ensures) (c .before .before .put-byte2 .ensures))
+    (boolean-line (start .args .answer) (at-flag-digit .flag-digit .ensures))
+    (put-more (at-put-byte .put-byte .ensures) (c .before .before .put-byte2 .ensures))
 
 pub put-boolean-spec : {M : Type 1} → statement M
 put-boolean-spec =

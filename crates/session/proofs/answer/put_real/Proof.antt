@@ -9,9 +9,13 @@ use Rattle.session.proofs.answer.put_real.Tie as tie
 
 returns : tie.Need-returns
 returns c =
+    let at-put-bytes = c .before .before .before .before .before .before in
+    let at-word-text = at-put-bytes .before .before .before in
+    let at-word-of = at-word-text .before in
+    let start = at-word-of .before .before in
     put-as
-    (real-line (c .before .before .before .before .before .before .before .before .before .before .before .before .args .answer) (c .before .before .before .before .before .before .before .before .before .word-text .ensures ∙ ap wordText (c .before .before .before .before .before .before .before .before .before .before .word-of .ensures)))
-    (put-more (c .before .before .before .before .before .before .put-bytes .ensures) (c .before .before .put-byte .ensures))
+    (real-line (start .args .answer) (at-word-text .word-text .ensures ∙ ap wordText (at-word-of .word-of .ensures)))
+    (put-more (at-put-bytes .put-bytes .ensures) (c .before .before .put-byte .ensures))
 
 pub put-real-spec : {M : Type 1} → statement M
 put-real-spec =

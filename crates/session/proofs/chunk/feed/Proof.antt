@@ -13,14 +13,18 @@ slice-aggregate-feed-all c = sym (length-take-le (c .before .before .least .resu
 
 feed-all-requires : tie.Need-feed-all-requires
 feed-all-requires c κs =
-    let a = c .before .before .before .before .before .before .before .args in
-    let n = c .before .before .before .before .least in
+    let at-least = c .before .before .before .before in
+    let start = at-least .before .before .before in
+    let a = start .args in
+    let n = at-least .least in
     (search needs, omega (arith, length-take-le (n .result) (a .chunk .now) (n .ensures .0), n .ensures .1 .0))
 
 returns : tie.Need-returns
 returns c =
-    let a = c .before .before .before .before .before .before .before .before .before .before .args in
-    let n = c .before .before .before .before .before .before .before .least in
+    let at-least = c .before .before .before .before .before .before .before in
+    let start = at-least .before .before .before in
+    let a = start .args in
+    let n = at-least .least in
     let fed = c .before .before .feed-all in
     let used : fed .result .used ≡ n .result = fed .ensures .1 .0 ∙ length-take-le (n .result) (a .chunk .now) (n .ensures .0) in
     (used ∙ n .ensures .1 .1, (fed-part (atHand (a .session) (a .region .now) (a .carry .now) (a .held)) (a .chunk .now) used (fed .ensures .0), fed .ensures .1 .1))

@@ -34,15 +34,19 @@ line-in-requires c κs = omega arith
 
 loop-again : tie.Need-loop-again Inv-loop μ-loop
 loop-again c =
-    let l = c .before .before .before .before .before .before .before .before .before .before .before .before .loop in
-    let w = c .before .before .before .before .line-in in
-    let n = c .before .before .before .before .before .before .before .before .least in (
+    let at-line-in = c .before .before .before .before in
+    let at-least = at-line-in .before .before .before .before in
+    let at-if1 = at-least .before in
+    let at-loop = at-if1 .before .before .before in
+    let l = at-loop .loop in
+    let w = at-line-in .line-in in
+    let n = at-least .least in (
       omega arith,
       omega (arith, w .ensures .put .moved, line-short (l .region) (l .s) (take (n .result) (l .carry))),
       l .inv .2,
       w .kept .1 .1 .0 ∙ l .inv .3,
       w .kept .1 .1 .1 .0 ∙ l .inv .4,
-      running-line (l .inv .5) (omega arith) (c .before .before .before .before .before .before .before .before .before .if1 .taken) (n .ensures .1 .1) (omega arith) (w .ensures),
+      running-line (l .inv .5) (omega arith) (at-if1 .if1 .taken) (n .ensures .1 .1) (omega arith) (w .ensures),
     )
 
 hold-byte-requires : tie.Need-hold-byte-requires Inv-loop μ-loop
@@ -50,14 +54,16 @@ hold-byte-requires c κs = omega arith
 
 loop-again-2 : tie.Need-loop-again-2 Inv-loop μ-loop
 loop-again-2 c =
-    let l = c .before .before .before .before .before .before .before .loop in
+    let at-if1 = c .before .before .before .before in
+    let at-loop = at-if1 .before .before .before in
+    let l = at-loop .loop in
     let k = c .before .before .hold-byte in (
       omega arith,
       omega arith,
       k .kept .0 ∙ l .inv .2,
       l .inv .3,
       l .inv .4,
-      running-byte (l .inv .5) (omega arith) (c .before .before .before .before .if1 .left) (k .ensures .0) (k .ensures .1),
+      running-byte (l .inv .5) (omega arith) (at-if1 .if1 .left) (k .ensures .0) (k .ensures .1),
     )
 
 returns : tie.Need-returns Inv-loop μ-loop

@@ -8,17 +8,24 @@ use Rattle.session.proofs.line.go_on.Tie as tie
 
 returns : tie.Need-returns
 returns c =
-    let a = c .before .before .before .before .before .before .before .before .before .before .args in
-    let l = c .before .before .before .before .before .before .later-line in
-    goes (on-bad (a .region .now) (a .run) (a .line .now) (l .ensures) (not-true (l .result .ok) (c .before .before .before .before .if1 .taken)))
+    let at-if1 = c .before .before .before .before in
+    let at-later-line = at-if1 .before .before in
+    let start = at-later-line .before .before .before .before in
+    let a = start .args in
+    let l = at-later-line .later-line in
+    goes (on-bad (a .region .now) (a .run) (a .line .now) (l .ensures) (not-true (l .result .ok) (at-if1 .if1 .taken)))
     (record { session = refl; words = refl; put = c .before .before .put-bad .ensures })
 
 returns-2 : tie.Need-returns-2
 returns-2 c =
-    let a = c .before .before .before .before .before .before .before .before .before .before .before .before .before .before .args in
-    let l = c .before .before .before .before .before .before .before .before .before .before .later-line in
-    goes (on-tick (a .region .now) (a .run) (a .line .now) (l .ensures) (not-false (l .result .ok) (c .before .before .before .before .before .before .before .before .if1 .left)))
-    (c .before .before .before .before .tick-in .ensures)
+    let at-tick-in = c .before .before .before .before in
+    let at-if1 = at-tick-in .before .before .before .before in
+    let at-later-line = at-if1 .before .before in
+    let start = at-later-line .before .before .before .before in
+    let a = start .args in
+    let l = at-later-line .later-line in
+    goes (on-tick (a .region .now) (a .run) (a .line .now) (l .ensures) (not-false (l .result .ok) (at-if1 .if1 .left)))
+    (at-tick-in .tick-in .ensures)
 
 pub go-on-spec : {M : Type 1} → statement M
 go-on-spec =

@@ -1,4 +1,4 @@
--- `line::open_with` meets its contract: each return is a case of `opened`. Assumes nothing.
+-- `line::open_with` meets its contract: each return is a case of `firstNames`. Assumes nothing.
 use borrow.Author.Needs.{needs}
 use mathlib.Core.Path.{refl}
 use Rattle.session.proofs.Going.{goes, open-nothing, open-refused, open-starts}
@@ -7,20 +7,31 @@ use Rattle.session.proofs.line.open_with.Tie as tie
 
 returns : tie.Need-returns
 returns c =
-    goes (open-nothing (c .before .before .before .before .before .before .before .before .args .region .now) (c .before .before .before .before .enum-told .given .1))
+    let at-enum-told = c .before .before .before .before in
+    let start = at-enum-told .before .before .before .before in
+    goes (open-nothing (start .args .region .now) (at-enum-told .enum-told .given .1))
     (record { session = refl; words = refl; put = c .before .before .put-bad .ensures })
 
 returns-2 : tie.Need-returns-2
 returns-2 c =
-    let l = c .before .before .before .before .before .before .state-length in
-    goes (open-refused (c .before .before .before .before .before .before .before .before .before .before .before .before .args .region .now) (c .before .before .before .before .before .before .before .before .named .given .0 .0) (c .before .before .before .before .before .before .before .before .named .given .1) (l .result) (l .ensures) (c .before .before .before .before .if1 .taken))
+    let at-if1 = c .before .before .before .before in
+    let at-state-length = at-if1 .before .before in
+    let at-named = at-state-length .before .before in
+    let start = at-named .before .before .before .before in
+    let l = at-state-length .state-length in
+    goes (open-refused (start .args .region .now) (at-named .named .given .0 .0) (at-named .named .given .1) (l .result) (l .ensures) (at-if1 .if1 .taken))
     (record { session = refl; words = refl; put = c .before .before .put-refusal .ensures })
 
 returns-3 : tie.Need-returns-3
 returns-3 c =
-    let l = c .before .before .before .before .before .before .before .before .before .state-length in
-    goes (open-starts (c .before .before .before .before .before .before .before .before .before .before .before .before .before .before .before .args .region .now) (c .before .before .before .before .before .before .before .before .before .before .before .named .given .0 .0) (c .before .before .before .before .before .before .before .before .before .before .before .named .given .1) (l .result) (l .ensures) (c .before .before .before .before .before .before .before .if1 .left))
-    (c .before .before .before .before .start-block .ensures)
+    let at-start-block = c .before .before .before .before in
+    let at-if1 = at-start-block .before .before .before in
+    let at-state-length = at-if1 .before .before in
+    let at-named = at-state-length .before .before in
+    let start = at-named .before .before .before .before in
+    let l = at-state-length .state-length in
+    goes (open-starts (start .args .region .now) (at-named .named .given .0 .0) (at-named .named .given .1) (l .result) (l .ensures) (at-if1 .if1 .left))
+    (at-start-block .start-block .ensures)
 
 pub open-with-spec : {M : Type 1} → statement M
 open-with-spec =

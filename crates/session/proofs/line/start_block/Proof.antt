@@ -1,4 +1,4 @@
--- `line::start_block` meets its contract: each return is a case of `started`. Assumes nothing.
+-- `line::start_block` meets its contract: each return is a case of `firstStarts`. Assumes nothing.
 use borrow.Author.Needs.{needs}
 use mathlib.Core.Path.{refl, sym}
 use lib.Seq.{length-take-le}
@@ -8,8 +8,10 @@ use Rattle.session.proofs.line.start_block.Tie as tie
 
 returns : tie.Need-returns
 returns c =
-    let a = c .before .before .before .before .before .before .before .args in
-    goes (start-tight (a .region .now) (a .block) (a .n) (c .before .before .before .before .if1 .taken))
+    let at-if1 = c .before .before .before .before in
+    let start = at-if1 .before .before .before in
+    let a = start .args in
+    goes (start-tight (a .region .now) (a .block) (a .n) (at-if1 .if1 .taken))
     (record { session = refl; words = refl; put = c .before .before .put-bad .ensures })
 
 slice-aggregate-start : tie.Need-slice-aggregate-start
@@ -19,8 +21,11 @@ slice-aggregate-start c =
 
 returns-2 : tie.Need-returns-2
 returns-2 c =
-    let a = c .before .before .before .before .before .before .before .before .before .before .before .args in
-    goes (start-runs (a .region .now) (a .block) (a .n) (c .before .before .before .before .before .before .before .before .if1 .left) (c .before .before .before .before .before .before .start .ensures))
+    let at-start = c .before .before .before .before .before .before in
+    let at-if1 = at-start .before .before in
+    let start = at-if1 .before .before .before in
+    let a = start .args in
+    goes (start-runs (a .region .now) (a .block) (a .n) (at-if1 .if1 .left) (at-start .start .ensures))
     (record { session = refl; words = refl; put = c .before .before .put-block .ensures })
 
 pub start-block-spec : {M : Type 1} → statement M

@@ -1,4 +1,4 @@
--- `line::tick_in` meets its contract: each return is a case of `ticks`. Assumes nothing.
+-- `line::tick_in` meets its contract: each return is a case of `tickGoes`. Assumes nothing.
 use borrow.Author.Needs.{needs}
 use mathlib.Core.Path.{refl, sym}
 use lib.Seq.{length-take-le}
@@ -18,16 +18,26 @@ slice-aggregate-tick c = sym (length-take-le (c .before .before .size-of .result
 
 returns-2 : tie.Need-returns-2
 returns-2 c =
-    let a = c .before .before .before .before .before .before .before .before .before .before .before .before .before .before .before .args in
-    let n = c .before .before .before .before .before .before .before .before .before .before .before .before .size-of in
-    goes (tick-refused (a .region .now) (a .run) (a .tick) (n .result) (n .ensures) (c .before .before .before .before .before .before .before .before .before .before .before .if1 .left) (c .before .before .before .before .before .before .before .before .before .tick .ensures) (c .before .before .before .before .before .if2 .taken) (c .one-more .ensures))
+    let at-if2 = c .before .before .before .before .before in
+    let at-tick = at-if2 .before .before .before .before in
+    let at-if1 = at-tick .before .before in
+    let at-size-of = at-if1 .before in
+    let start = at-size-of .before .before .before in
+    let a = start .args in
+    let n = at-size-of .size-of in
+    goes (tick-refused (a .region .now) (a .run) (a .tick) (n .result) (n .ensures) (at-if1 .if1 .left) (at-tick .tick .ensures) (at-if2 .if2 .taken) (c .one-more .ensures))
     (record { session = refl; words = refl; put = c .before .before .before .put-refusal .ensures })
 
 returns-3 : tie.Need-returns-3
 returns-3 c =
-    let a = c .before .before .before .before .before .before .before .before .before .before .before .before .before .before .before .args in
-    let n = c .before .before .before .before .before .before .before .before .before .before .before .before .size-of in
-    goes (tick-accepted (a .region .now) (a .run) (a .tick) (n .result) (n .ensures) (c .before .before .before .before .before .before .before .before .before .before .before .if1 .left) (c .before .before .before .before .before .before .before .before .before .tick .ensures) (c .before .before .before .before .before .if2 .left) (c .one-more2 .ensures))
+    let at-if2 = c .before .before .before .before .before in
+    let at-tick = at-if2 .before .before .before .before in
+    let at-if1 = at-tick .before .before in
+    let at-size-of = at-if1 .before in
+    let start = at-size-of .before .before .before in
+    let a = start .args in
+    let n = at-size-of .size-of in
+    goes (tick-accepted (a .region .now) (a .run) (a .tick) (n .result) (n .ensures) (at-if1 .if1 .left) (at-tick .tick .ensures) (at-if2 .if2 .left) (c .one-more2 .ensures))
     (record { session = refl; words = refl; put = c .before .before .before .put-answer .ensures })
 
 pub tick-in-spec : {M : Type 1} → statement M

@@ -1,3 +1,4 @@
+-- `clipped` is the count, but not above seventeen. Assumes nothing.
 use mathlib.Core.Path.{refl}
 use borrow.Author.Tests.{lt-ltb, le-ltb}
 use Rattle.sheet.proofs.table.clipped.Statement.{statement}

@@ -1,3 +1,4 @@
+-- `start_table` is `start` over the table's rows. Assumes nothing.
 use Rattle.sheet.proofs.Full.{full-of, clipped-few, clipped-rows}
 use borrow.Author.Needs.{needs}
 use Rattle.sheet.proofs.table.start_table.Statement.{statement}
@@ -8,8 +9,10 @@ start-first-requires c κs = rw (c .before .clipped .ensures) (clipped-few (c .b
 
 returns : tie.Need-returns
 returns c =
-    let entry = c .before .before .before .before .before .before .before in
-    rw (c .before .before .before .before .clipped .ensures, clipped-rows (entry .args .table) (full-of (entry .args .table) _ (entry .good .0))) at (c .before .before .start-first .ensures)
+    let at-clipped = c .before .before .before .before in
+    let at-before = at-clipped .before .before in
+    let entry = at-before .before in
+    rw (at-clipped .clipped .ensures, clipped-rows (entry .args .table) (full-of (entry .args .table) _ (entry .good .0))) at (c .before .before .start-first .ensures)
 
 pub start-table-spec : {M : Type 1} → statement M
 start-table-spec = tie.close (tie.spec (λ c κs. search needs) start-first-requires (λ c. search needs) returns)

@@ -1,3 +1,4 @@
+-- `tick_table` is `tick` over the table's rows. Assumes nothing.
 use Rattle.sheet.proofs.Full.{full-of, clipped-few, clipped-rows}
 use borrow.Author.Needs.{needs}
 use Rattle.sheet.proofs.table.tick_table.Statement.{statement}

@@ -1,3 +1,4 @@
+-- `put_answer` writes a row's two answer words, if there is room. Assumes nothing.
 use Prim.Native.Nat.{_*_, _/_}
 use native.Mathlib.Omega.{arith}
 use mathlib.Core.Path.{refl}

@@ -1,3 +1,4 @@
+-- `row_inputs` are the words that the row's columns name. Assumes nothing.
 use mathlib.Core.Path.{refl}
 use Rattle.blocks.specs.Block.{inputsOf}
 use Rattle.sheet.specs.Sheet.{rowTick}

@@ -1,3 +1,4 @@
+-- `word_of_column` is the tick's word that a column names. Assumes nothing.
 use Prim.Native.Nat.{zero-le}
 use mathlib.Core.Path.{_≡_, refl, sym}
 use lib.ListN.{length, List·getD-eq-default}

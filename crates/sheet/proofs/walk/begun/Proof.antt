@@ -1,3 +1,4 @@
+-- `begun` makes test 1 on the number of rows. Assumes nothing.
 use mathlib.Core.Path.{refl}
 use native.Mathlib.Omega.{arith}
 use mathlib.Core.Bool.{and-false}

@@ -1,3 +1,4 @@
+-- `lies` says whether a row's words are within the region. Assumes nothing.
 use Prim.Native.Nat.{_+_}
 use mathlib.Core.Path.{sym}
 use native.Mathlib.Omega.{arith}

@@ -1,3 +1,4 @@
+-- `no_tick` is a tick of zeros. Assumes nothing.
 use mathlib.Core.Path.{refl}
 use lib.Ieee.{ofBits}
 use Rattle.sheet.proofs.walk.no_tick.Statement.{statement}

@@ -1,3 +1,4 @@
+-- `noted` keeps the lowest number, and the topmost row that has it. Assumes nothing.
 use mathlib.Core.Path.{refl}
 use borrow.Author.Tests.{eq-eqb, ne-eqb}
 use Rattle.sheet.proofs.walk.noted.Statement.{statement}

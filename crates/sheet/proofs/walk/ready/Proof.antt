@@ -1,3 +1,4 @@
+-- `ready` is a walk ahead of the first row. Assumes nothing.
 use mathlib.Core.Path.{refl}
 use Rattle.sheet.proofs.walk.ready.Statement.{statement}
 use Rattle.sheet.proofs.walk.ready.Tie as tie

@@ -1,3 +1,4 @@
+-- `refused` ends a walk with a number and a row. Assumes nothing.
 use mathlib.Core.Path.{refl}
 use borrow.Author.Needs.{needs}
 use Rattle.sheet.proofs.walk.refused.Statement.{statement}

@@ -1,3 +1,4 @@
+-- `surveyed` makes test 3 after a start's survey. Assumes nothing.
 use mathlib.Core.Path.{refl}
 use borrow.Author.Tests.{eq-eqb, ne-eqb}
 use Rattle.sheet.specs.Walk.{surveyed}

@@ -1,3 +1,4 @@
+-- `twice` says whether the answers are two words for each row. Assumes nothing.
 use Prim.Native.Nat.{_*_}
 use mathlib.Core.Path.{sym}
 use native.Mathlib.Omega.{arith}

@@ -1,3 +1,4 @@
+-- `warned` keeps that some row warned. Assumes nothing.
 use mathlib.Core.Path.{refl}
 use borrow.Author.Tests.{not-true, not-false}
 use Rattle.sheet.proofs.walk.warned.Statement.{statement}

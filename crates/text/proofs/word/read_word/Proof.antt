@@ -23,10 +23,13 @@ returns c = simp (ne-eqb _ _ (c .if1 .taken))
 returns-2 : tie.Need-returns-2 Inv-loop μ-loop
 unfolding wordItem
 returns-2 c =
-    let l = c .before .before .before .before .loop in
-    let s = c .before .before .before .before .before .before .before .args .s .now in
+    let at-loop = c .before .before .before .before in
+    let at-if1 = at-loop .before in
+    let start = at-if1 .before .before in
+    let l = at-loop .loop in
+    let s = start .args .s .now in
     let d : 16 ≤ digitValue (getD s (l .i) 0) = rw (c .before .digit-value .ensures) at (c .if2 .taken) in
-    simp (eq-eqb _ _ (c .before .before .before .before .before .if1 .left))
+    simp (eq-eqb _ _ (at-if1 .if1 .left))
     (sym (hex-other (l .word) s (l .i) (omega arith) d) ∙ l .inv .2)
 
 mul-word : tie.Need-mul-word Inv-loop μ-loop
@@ -41,8 +44,10 @@ add-word c =
 
 loop-again : tie.Need-loop-again Inv-loop μ-loop
 loop-again c =
-    let l = c .before .before .before .before .loop in
-    let s = c .before .before .before .before .before .before .before .args .s .now in
+    let at-loop = c .before .before .before .before in
+    let start = at-loop .before .before .before in
+    let l = at-loop .loop in
+    let s = start .args .s .now in
     let e = c .before .digit-value .ensures in
     let d : digitValue (getD s (l .i) 0) < 16 = rw e at (c .if2 .left) in (
       search needs,

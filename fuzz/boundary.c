@@ -1,0 +1,247 @@
+/* The list of calls that bytes stand for: calls of one block on one region, or of one sheet. */
+#include "boundary.h"
+#include "checks.h"
+#include "due.h"
+
+/* Words of regions that one list may take; it keeps a list of a large ring short. */
+enum { WORDS_OF_A_LIST = 1 << 20 };
+
+struct bytes current_input;
+
+/* What the calls of a list have in common. The buffers are longer than what is lent, for lengths that are wrong. */
+static struct {
+    uint64_t block, settings[MOST], rows[MOST], ticks[MOST], answers[MOST];
+    size_t settings_len, rows_len, region_len;
+    double now;
+} bench;
+
+static uint64_t bench_region[REGION_MOST];
+
+/* ---- A block or a sheet to begin with. */
+
+/* A block's number; a moving average, whose regions are long, comes up once in 50. */
+static uint64_t some_block(struct bytes *b) {
+    static const uint64_t others[] = {OVEN_PID,        OVEN_PID_WITH_RESET,  OVEN_TIMER_ACCUMULATING,
+                                      OVEN_TRUE_DELAY, OVEN_TRUE_FALSE_HOLD, OVEN_TRUE_HOLD_WITH_RESET};
+    const size_t choice = choose(b, 50);
+    return choice == 49 ? OVEN_MOVING_AVERAGE : others[choice % 6];
+}
+
+/* A delta: mostly one of the least ring, sometimes of a longer one, now and then of the longest. */
+static uint64_t some_delta(struct bytes *b) {
+    const size_t choice = choose(b, 64);
+    if (choice == 0) {
+        return oven_word(65534.0 + (double)choose(b, 32) / 8.0);
+    }
+    return choice < 6 ? oven_word(1023.0 + (double)choose(b, 2048) / 8.0) : finite_word(b);
+}
+
+/* Settings that are finite, and a type. */
+static void some_settings(struct bytes *b, uint64_t block, uint64_t *settings) {
+    for (size_t n = 0; n < due_settings(block); n++) {
+        settings[n] = block == OVEN_MOVING_AVERAGE ? some_delta(b) : finite_word(b);
+    }
+    if (block == OVEN_PID || block == OVEN_PID_WITH_RESET) {
+        settings[OVEN_PID_TYPE] = choose(b, 4);
+        settings[OVEN_PID_REVERSE_ACTING] = choose(b, 2);
+    }
+}
+
+/* The region before the first call: zeros, or words of any kind, from the seventh on in a pattern. */
+static void some_region(struct bytes *b, size_t len) {
+    const bool is_zero = choose(b, 2) == 0;
+    bench.region_len = len <= REGION_MOST ? len : choose(b, 100);
+    for (size_t n = 0; n < bench.region_len; n++) {
+        bench_region[n] = is_zero ? 0 : n < 6 ? any_word(b) : bench_region[n - 6] + n;
+    }
+}
+
+static void begin_block(struct bytes *b) {
+    bench.block = some_block(b);
+    bench.settings_len = due_settings(bench.block);
+    some_settings(b, bench.block, bench.settings);
+    some_region(b, due_length(bench.block, bench.settings));
+}
+
+static void begin_sheet(struct bytes *b) {
+    const size_t rows = 1 + choose(b, choose(b, 4) == 0 ? 16 : 5);
+    size_t len = 0;
+    bench.rows_len = rows * OVEN_ROW_WORDS;
+    for (uint64_t *row = bench.rows; row < bench.rows + bench.rows_len; row += OVEN_ROW_WORDS) {
+        memset(row, 0xFF, OVEN_ROW_WORDS * sizeof *row); /* settings that a block does not read are no numbers */
+        row[OVEN_ROW_BLOCK] = some_block(b);
+        for (size_t n = OVEN_ROW_FIRST; n < OVEN_ROW_SETTINGS; n++) {
+            row[n] = choose(b, 8);
+        }
+        some_settings(b, row[OVEN_ROW_BLOCK], row + OVEN_ROW_SETTINGS);
+        len += due_length(row[OVEN_ROW_BLOCK], row + OVEN_ROW_SETTINGS);
+    }
+    some_region(b, len);
+}
+
+/* ---- What is wrong with a call, if anything is. */
+
+/* Another length than this one: one more, one less, none, or any up to this most. */
+static size_t wrong_length(struct bytes *b, size_t len, size_t most) {
+    switch (choose(b, 5)) {
+    case 0:
+        return len < most ? len + 1 : len;
+    case 1:
+        return len > 0 ? len - 1 : 1;
+    case 2:
+        return 0;
+    case 3:
+        return choose(b, 64);
+    default:
+        return choose(b, choose(b, 8) == 0 ? 65536 : 4096) % most;
+    }
+}
+
+/* Damages a word of the region, for this call and those to come: a header's word, or any. */
+static void damage_region(struct bytes *b, size_t len) {
+    const size_t place = choose(b, choose(b, 4) == 0 ? 65536 : 6);
+    if (len > 0) {
+        bench_region[place % len] = any_word(b);
+    }
+}
+
+/* The call's settings in a copy, which may be changed. */
+static uint64_t *own_settings(struct call *c) {
+    static uint64_t settings[MOST];
+    memcpy(settings, c->settings.at, OVEN_PID_SETTINGS * sizeof *settings);
+    c->settings.at = settings;
+    return settings;
+}
+
+static void spoil_block(struct bytes *b, struct call *c) {
+    switch (choose(b, 6)) {
+    case 0:
+        c->block = choose(b, 4) == 0 ? any_word(b) : choose(b, 9);
+        break;
+    case 1:
+        c->settings.len = wrong_length(b, c->settings.len, MOST);
+        break;
+    case 2:
+        own_settings(c)[choose(b, due_settings(bench.block))] = any_word(b);
+        break;
+    case 3:
+        own_settings(c)[OVEN_PID_TYPE] = choose(b, 6);
+        break;
+    case 4:
+        c->region.len = wrong_length(b, c->region.len, REGION_MOST);
+        break;
+    default:
+        damage_region(b, c->region.len);
+    }
+}
+
+/* The call's rows in a copy, of which this word may be changed. */
+static uint64_t *own_row_word(struct bytes *b, struct call *c, size_t place) {
+    static uint64_t rows[MOST];
+    memcpy(rows, c->rows.at, MOST * sizeof *rows);
+    c->rows.at = rows;
+    return rows + choose(b, c->rows.len / OVEN_ROW_WORDS) * OVEN_ROW_WORDS + place;
+}
+
+static void spoil_sheet(struct bytes *b, struct call *c) {
+    switch (choose(b, 8)) {
+    case 0:
+        c->rows.len = wrong_length(b, c->rows.len, MOST);
+        break;
+    case 1:
+        c->rows.len = choose(b, 24) * OVEN_ROW_WORDS;
+        break;
+    case 2:
+        *own_row_word(b, c, OVEN_ROW_BLOCK) = choose(b, 4) == 0 ? any_word(b) : choose(b, 9);
+        break;
+    case 3:
+        *own_row_word(b, c, OVEN_ROW_FIRST + choose(b, 3)) = choose(b, 2) == 0 ? 8 : any_word(b);
+        break;
+    case 4:
+        *own_row_word(b, c, OVEN_ROW_SETTINGS + choose(b, OVEN_PID_SETTINGS)) = any_word(b);
+        break;
+    case 5:
+        c->region.len = wrong_length(b, c->region.len, REGION_MOST);
+        break;
+    case 6:
+        c->answers.len = wrong_length(b, c->answers.len, MOST);
+        break;
+    default:
+        damage_region(b, c->region.len);
+    }
+}
+
+/* ---- Calls. */
+
+/* Ticks of a run: a few, or many of a short region. Their number of words and the answers' may be wrong. */
+static void some_ticks(struct bytes *b, struct call *c) {
+    const size_t many = choose(b, 16) == 0 && c->region.len < 16 ? 1 + choose(b, 64) : choose(b, 8);
+    double now = bench.now;
+    for (uint64_t *tick = bench.ticks; tick < bench.ticks + 4 * many; tick += 4) {
+        tick[0] = any_time(b, now);
+        for (size_t n = 1; n < 4; n++) {
+            tick[n] = any_word(b);
+        }
+        now = is_finite(tick[0]) ? oven_real(tick[0]) : now;
+    }
+    c->ticks = (struct words){bench.ticks, choose(b, 12) == 11 ? wrong_length(b, 4 * many, MOST) : 4 * many};
+    c->answers.len = choose(b, 12) == 11 ? wrong_length(b, c->ticks.len, MOST) : c->ticks.len;
+}
+
+/* Takes over what an accepted call has left. */
+static void go_on(const struct call *c, const struct outcome *o) {
+    if (o->said[0] != OVEN_ACCEPTED || !writes_region(c->kind)) {
+        return;
+    }
+    memcpy(bench_region, o->region, c->region.len * sizeof *bench_region);
+    if (c->kind == RUN && c->ticks.len >= 4) {
+        const uint64_t last = c->ticks.at[c->ticks.len - 4];
+        bench.now = is_finite(last) ? oven_real(last) : bench.now;
+    } else if (c->kind == START || c->kind == SHEET_START) {
+        bench.now = 0.0;
+    } else {
+        bench.now = oven_real(c->time);
+    }
+}
+
+/* A call of this list, as a user means it and in one of three cases spoilt. */
+static void one_call(struct bytes *b, bool of_sheet) {
+    static const enum kind kinds[] = {TICK, UPDATE, EMIT, RUN, START, DECODE, SOUND, LENGTH, TICK, UPDATE};
+    static struct outcome outcome;
+    struct call c = {.block = bench.block, .region = {bench_region, bench.region_len}, .answers = {bench.answers, 0}};
+    c.kind = of_sheet ? (choose(b, 6) == 0 ? SHEET_START : SHEET_TICK) : kinds[choose(b, 10)];
+    c.time = any_time(b, bench.now);
+    for (size_t n = 0; n < (of_sheet ? 8 : 3); n++) {
+        c.inputs[n] = any_word(b);
+    }
+    if (of_sheet) {
+        c.rows = (struct words){bench.rows, bench.rows_len};
+        c.answers.len = c.kind == SHEET_TICK ? 2 * bench.rows_len / OVEN_ROW_WORDS : 0;
+    } else {
+        c.settings = (struct words){bench.settings, bench.settings_len};
+    }
+    if (c.kind == RUN) {
+        some_ticks(b, &c);
+    }
+    if (choose(b, 3) == 2) {
+        (of_sheet ? spoil_sheet : spoil_block)(b, &c);
+    }
+    check_call(&c, &outcome);
+    go_on(&c, &outcome);
+    if (choose(b, 16) == 0) {
+        check_leaves(c.inputs);
+    }
+}
+
+int LLVMFuzzerTestOneInput(const uint8_t *data, size_t size) {
+    struct bytes b = current_input = (struct bytes){data, size};
+    lent_open();
+    memset(&bench, 0, sizeof bench); /* a list does not depend on those before it */
+    memset(bench.answers, 0x5A, sizeof bench.answers);
+    const bool of_sheet = choose(&b, 6) == 0;
+    (of_sheet ? begin_sheet : begin_block)(&b);
+    for (size_t words = 0; b.left > 0 && words < WORDS_OF_A_LIST; words += bench.region_len) {
+        one_call(&b, of_sheet);
+    }
+    return 0;
+}

@@ -1,0 +1,36 @@
+/* What document 01 and docs/BOUNDARY.md say is due, in plain C and apart from the library. */
+#ifndef DUE_H
+#define DUE_H
+
+#include "calls.h"
+
+/* The number that a call must give, and beside it the row of a sheet. */
+struct due {
+    uint64_t number, row;
+};
+
+struct due due_of(const struct call *call);
+
+/* Of a block that has its number, its settings and its type: how many words its state has. Settings that are not finite
+ * make it 0. */
+size_t due_length(uint64_t block, const uint64_t *settings);
+
+/* The kinds of its state words, a letter each: t previous time; reals: i integrator, f filter, s start time, r another; h head,
+ * n count; booleans: g trigger, c coalesced, b another. The points of a moving average come after them. */
+const char *due_layout(uint64_t block, const uint64_t *settings);
+
+/* How many settings it has, and which outputs. */
+size_t due_settings(uint64_t block);
+bool has_real(uint64_t block);
+bool has_boolean(uint64_t block);
+
+/* The words of a fresh start. */
+void due_start(uint64_t block, const uint64_t *settings, uint64_t *region);
+
+/* The six words that a region decodes to. */
+void due_state(uint64_t block, const uint64_t *settings, const uint64_t *region, uint64_t *state);
+
+bool is_finite(uint64_t word);
+uint64_t due_canonical(uint64_t word);
+
+#endif

@@ -1,4 +1,6 @@
 //! What both sides of a speed comparison run: cases with settings, a region and ticks, all prepared; and the published side.
+pub mod driver;
+pub mod published_sheet;
 pub mod sheet;
 
 use crate::Kind;
@@ -169,6 +171,22 @@ pub struct Prepared {
     time: f64,
     inputs: [Value; 3],
     outputs: [Value; 2],
+}
+
+impl Prepared {
+    /// The outputs that are stored, as words: the real one, and the boolean one.
+    #[must_use]
+    pub fn answer(&self) -> [u64; 2] {
+        let mut words = [0; 2];
+        for output in self.outputs {
+            match output {
+                Value::Real(y) => words[0] = y.to_bits(),
+                Value::Boolean(y) => words[1] |= u64::from(y),
+                Value::Integer(_) => unreachable!("no ported block has an integer output"),
+            }
+        }
+        words
+    }
 }
 
 impl Published {

@@ -60,7 +60,9 @@ fn flag(word: u64) -> bool {
     word == 1
 }
 
-fn answer(words: AnswerWords) -> Answer {
+/// An answer's words as the comparison has it.
+#[must_use]
+pub fn answer(words: AnswerWords) -> Answer {
     Answer {
         refusal: words.refusal,
         real: words.real,

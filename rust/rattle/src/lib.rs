@@ -7,6 +7,6 @@ mod leaves;
 pub mod shown;
 pub mod shown_sheet;
 
-pub use calls::{CALLS, OVEN_CALLS, SHEETS, run};
+pub use calls::{CALLS, OVEN_CALLS, SHEETS, answer, run};
 pub use comparison::sheet::BLOCKS;
 pub use leaves::LEAVES;

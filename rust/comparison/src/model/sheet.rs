@@ -69,7 +69,8 @@ fn inputs(row: &Row, tick: &Tick) -> [u64; 3] {
 }
 
 /// The real or boolean output, then the second output or 0.
-fn outputs(kind: Kind, answer: &Answer) -> [u64; 2] {
+#[must_use]
+pub fn outputs(kind: Kind, answer: &Answer) -> [u64; 2] {
     let boolean = u64::from(answer.boolean);
     match kind.outputs() {
         "rb" => [answer.real, boolean],

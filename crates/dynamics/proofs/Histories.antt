@@ -10,7 +10,7 @@ use borrow.Author.Tests.{not-true, eq-eqb}
 use Rattle.dynamics.specs.Previous.{runsBack, previousOf, wordOfPrevious, soundPrevious}
 use Rattle.dynamics.specs.Answer.{Outputs, silent, emitted, updated, refusalOf, formRefusal, timeRefusal, accept}
 use Rattle.dynamics.specs.Machine.{Machine, startRefusal, startedWords, tickRefusal, emitAnswer, updateAnswer, tickAnswer, updatedWords, Tick, Call, starts, emits, updates, ticks, answerTo, wordsAfter, run}
-use Rattle.dynamics.specs.History.{History, started, wiped, followed, newest, previousIn, Account, refusedAfter, grown, retold, Wiping, RetoldFromWiping, AlikeFromWiping, AnswersWiping, RetoldFromStart}
+use Rattle.dynamics.specs.History.{History, started, wiped, followed, newest, previousIn, Account, refusedAfter, grown, answerAfter, historyAfter, retold, Wiping, RetoldFromWiping, AlikeFromWiping, AnswersWiping, RetoldFromStart}
 use Rattle.dynamics.specs.declared.call.Inputs.{Inputs}
 use Rattle.dynamics.specs.declared.previous.Previous.the-variants.{Unset, At}
 use Rattle.dynamics.proofs.Times.{previous-back, unset-back}
@@ -74,11 +74,11 @@ module _ (M : Machine) (A : Account) (Good : History → Type 0) (K : Kept M A G
       unfolding tickRefusal refusedAfter timeRefusal
       same-refusal = simp (settings, K .counted h, eq-eqb (M .size) (M .size) refl, K .decodes h g, K .previous h g)
 
-      same-emit : emitAnswer M (k .time) (k .inputs) (A .words h) ≡ accept (refusedAfter k h) (emitted (A .output k h)) (silent (refusedAfter k h))
+      same-emit : emitAnswer M (k .time) (k .inputs) (A .words h) ≡ answerAfter A k h
       unfolding emitAnswer
       same-emit = rw same-refusal (accept-same (refusedAfter k h) _ _ _ (λ z. ap emitted (K .output k h g z)))
 
-      same-tick : tickAnswer M (k .time) (k .inputs) (A .words h) ≡ accept (refusedAfter k h) (emitted (A .output k h)) (silent (refusedAfter k h))
+      same-tick : tickAnswer M (k .time) (k .inputs) (A .words h) ≡ answerAfter A k h
       unfolding tickAnswer
       same-tick = rw (same-refusal, K .quiet (A .words h) (k .time) (k .inputs)) (accept-same (refusedAfter k h) _ _ _ (λ z. ap emitted (K .output k h g z)))
 
@@ -91,13 +91,13 @@ module _ (M : Machine) (A : Account) (Good : History → Type 0) (K : Kept M A G
           go zero = unfold accept in refl
           go (suc n) = unfold accept in refl
 
-      same-words : updatedWords M (k .time) (k .inputs) (A .words h) ≡ A .words (accept (refusedAfter k h) (grown (A .wipes) h k) h)
+      same-words : updatedWords M (k .time) (k .inputs) (A .words h) ≡ A .words (historyAfter A k h)
       unfolding updatedWords
       same-words =
           rw same-refusal
           (accept-same (refusedAfter k h) _ _ _ (K .after k h g) ∙ sym (accept-ap (A .words) (refusedAfter k h) (grown (A .wipes) h k) h))
 
-      same-good : Good (accept (refusedAfter k h) (grown (A .wipes) h k) h)
+      same-good : Good (historyAfter A k h)
       same-good = go (refusedAfter k h) refl
         where
           go : (n : ℕ) → refusedAfter k h ≡ n → Good (accept n (grown (A .wipes) h k) h)
@@ -111,9 +111,9 @@ module _ (M : Machine) (A : Account) (Good : History → Type 0) (K : Kept M A G
     follows (starts ∷ cs) h g = rw (same-start h, started-words h, follows cs started (K .good-fresh))
     follows (emits k ∷ cs) h g = rw (same-emit k h g, follows cs h g)
     follows (updates k ∷ cs) h g =
-        rw (same-update k h g, same-words k h g, follows cs (accept (refusedAfter k h) (grown (A .wipes) h k) h) (same-good k h g))
+        rw (same-update k h g, same-words k h g, follows cs (historyAfter A k h) (same-good k h g))
     follows (ticks k ∷ cs) h g =
-        rw (same-tick k h g, same-words k h g, follows cs (accept (refusedAfter k h) (grown (A .wipes) h k) h) (same-good k h g))
+        rw (same-tick k h g, same-words k h g, follows cs (historyAfter A k h) (same-good k h g))
 
   -- from a fresh start
   pub from-start : RetoldFromStart M A

@@ -5,6 +5,7 @@ use mathlib.Core.Bool.{Bool, true, cond}
 use mathlib.Core.List.{List, [], _∷_}
 use Rattle.dynamics.specs.Answer.{Outputs, silent, emitted, timeRefusal, accept}
 use Rattle.dynamics.specs.Machine.{Machine, tickRefusal, Tick, Call, starts, emits, updates, ticks, emitAnswer, Seen, wordsAfter, run}
+use Rattle.dynamics.specs.declared.call.Answer.{Answer}
 use Rattle.dynamics.specs.declared.previous.Previous.{Previous}
 use Rattle.dynamics.specs.declared.previous.Previous.the-variants.{Unset, At}
 
@@ -41,19 +42,21 @@ abbrev pub grown : (Tick → History → Bool) → History → Tick → History
 grown wipes h k = cond (wipes k h) (wiped k) (followed h k)
 
 module _ (A : Account) where
+  -- what an emit of k answers after h, and the history that k leaves
+  abbrev pub answerAfter : Tick → History → Answer
+  answerAfter k h = accept (refusedAfter k h) (emitted (A .output k h)) (silent (refusedAfter k h))
+
+  abbrev pub historyAfter : Tick → History → History
+  historyAfter k h = accept (refusedAfter k h) (grown (A .wipes) h k) h
+
   -- A start ends the history, and a new one begins. An accepted emit answers for its tick as if that came next, and adds
   -- nothing. An accepted update adds its tick. A whole tick answers as an emit does, and adds as an update. A refused call changes nothing.
   unfoldable pub retold : History → List Call → List Seen
   retold h [] = []
   retold h (starts ∷ cs) = record { answer = silent 0; left = A .words started } ∷ retold started cs
-  retold h (emits k ∷ cs) =
-      record { answer = accept (refusedAfter k h) (emitted (A .output k h)) (silent (refusedAfter k h)); left = A .words h } ∷ retold h cs
-  retold h (updates k ∷ cs) =
-      let h' = accept (refusedAfter k h) (grown (A .wipes) h k) h in
-      record { answer = silent (refusedAfter k h); left = A .words h' } ∷ retold h' cs
-  retold h (ticks k ∷ cs) =
-      let h' = accept (refusedAfter k h) (grown (A .wipes) h k) h in
-      record { answer = accept (refusedAfter k h) (emitted (A .output k h)) (silent (refusedAfter k h)); left = A .words h' } ∷ retold h' cs
+  retold h (emits k ∷ cs) = record { answer = answerAfter k h; left = A .words h } ∷ retold h cs
+  retold h (updates k ∷ cs) = record { answer = silent (refusedAfter k h); left = A .words (historyAfter k h) } ∷ retold (historyAfter k h) cs
+  retold h (ticks k ∷ cs) = record { answer = answerAfter k h; left = A .words (historyAfter k h) } ∷ retold (historyAfter k h) cs
 
   -- a wiping tick on any region: accepted, and it wipes
   pub record Wiping (M : Machine) (w : List ℕ) (k : Tick) : Type 0 where

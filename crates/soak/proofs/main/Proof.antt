@@ -28,8 +28,7 @@ take-turn-requires c κs =
 loop-again : tie.Need-loop-again Inv-loop μ-loop
 loop-again c =
     let at-take-turn = c .before .before .before .before .before .before .before in
-    let at-loop = at-take-turn .before .before .before .before .before .before .before in
-    let l = at-loop .loop in
+    let l = at-take-turn .before .before .before .before .before .before .before .loop in
     let t = at-take-turn .take-turn in
     let w = l .inv .2 in (
       l .inv .0 ∙ sym (t .kept .1 .1 .1 .1 .0),

@@ -14,8 +14,7 @@ returns-2 : tie.Need-returns-2
 returns-2 c =
     let at-step = c .before .before .before .before in
     let at-met = at-step .before .before .before in
-    let at-before = at-met .before in
-    let a = at-before .before in
+    let a = at-met .before .before in
     update-then timer (a .before .before .before .args .settings) _ _ _ (a .admit .ensures) (at-met .met .given .1) (at-step .step .ensures) (c .before .before .before .write .ensures) (c .silent2 .ensures)
 
 pub update-spec : {M : Type 1} → statement M

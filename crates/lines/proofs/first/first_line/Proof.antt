@@ -49,9 +49,8 @@ slice-aggregate-block-of c =
 returns-3 : tie.Need-returns-3
 returns-3 c =
     let at-if2 = c .before .before .before .before in
-    let at-before = at-if2 .before in
     let n = c .before .before .settings-of in
-    let at-read = at-before .before in
+    let at-read = at-if2 .before .before in
     let v = at-read .read-settings in
     let number = at-read .before .number-for in
     let at-end = at-read .before .before .before in

@@ -15,8 +15,7 @@ compare-requires : tie.Need-compare-requires
 compare-requires c κs =
     let at-if3 = c .before .before .before .before .before .before .before .before in
     let at-if2 = at-if3 .before in
-    let start = at-if2 .before .before .before .before .before .before in
-    let a = start .args in
+    let a = at-if2 .before .before .before .before .before .before .args in
     equal-parts (getD (a .words .now) (a .form .settings + a .form .inputs + 1) 0) (a .region .now) (a .expected .now) (at-if2 .if2 .left) (at-if3 .if3 .left)
 
 returns-5 : tie.Need-returns-5
@@ -26,8 +25,7 @@ returns-5 c =
     let at-block = at-tick-at .before .before in
     let at-block-of = at-block .before .before in
     let at-if2 = at-block-of .before .before .before in
-    let start = at-if2 .before .before .before .before .before .before in
-    let a = start .args in
+    let a = at-if2 .before .before .before .before .before .before .args in
     let n : ℕ = getD (a .words .now) (lengthAt (a .form)) 0 in
     replayed (a .form) (a .words .now) (at-block .block .given .0 .0) (at-tick-at .tick-at .result) (length (take n (a .region .now))) (at-compare .compare .result)
     (sym (at-block-of .block-of .ensures) ∙ at-block .block .given .1)

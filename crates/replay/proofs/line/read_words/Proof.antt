@@ -29,9 +29,8 @@ returns-2 : tie.Need-returns-2 Inv-loop μ-loop
 returns-2 c =
     let at-item-from = c .before .before .before .before in
     let at-loop = at-item-from .before .before in
-    let start = at-loop .before .before .before in
     let l = at-loop .loop in
-    let line = start .args .line .now in
+    let line = at-loop .before .before .before .args .line .now in
     let w : ℕ = c .before .before .item .given .0 .0 in
     let new : itemFrom line (l .n * 17) ≡ Word w = ap (λ (k : ℕ). itemFrom line k) (sym (l .inv .0)) ∙ sym (at-item-from .item-from .ensures) ∙ c .before .before .item .given .1 in
     last-word line (l .words) (l .n) w (omega arith) new (l .inv .4) (omega arith)
@@ -40,9 +39,8 @@ loop-again : tie.Need-loop-again Inv-loop μ-loop
 loop-again c =
     let at-item-from = c .before .before .before .before in
     let at-loop = at-item-from .before .before in
-    let start = at-loop .before .before .before in
     let l = at-loop .loop in
-    let line = start .args .line .now in
+    let line = at-loop .before .before .before .args .line .now in
     let w : ℕ = c .before .before .item .given .0 .0 in
     let new : itemFrom line (l .n * 17) ≡ Word w = ap (λ (k : ℕ). itemFrom line k) (sym (l .inv .0)) ∙ sym (at-item-from .item-from .ensures) ∙ c .before .before .item .given .1 in (
       omega arith,

@@ -53,9 +53,8 @@ returns-2 c =
     let at-replay-line = c .before .before .before .before .before .before in
     let at-end-of = at-replay-line .before .before .before .before in
     let at-loop = at-end-of .before .before in
-    let start = at-loop .before .before .before .before .before in
     let l = at-loop .loop in
-    let a = start .args in
+    let a = at-loop .before .before .before .before .before .args in
     (search needs, λ e. l .inv .5 (omega arith) (one-more (a .form) (a .lines .now) (l .at) (at-end-of .end-of .result) (c .before .tell .result) (at-replay-line .replay-line .result) (at-end-of .end-of .ensures .0) (at-replay-line .replay-line .ensures) (c .before .tell .ensures .0) (omega arith) (none (omega arith))))
 
 pub replay-lines-spec : {M : Type 1} → statement M

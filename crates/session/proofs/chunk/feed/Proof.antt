@@ -14,16 +14,14 @@ slice-aggregate-feed-all c = sym (length-take-le (c .before .before .least .resu
 feed-all-requires : tie.Need-feed-all-requires
 feed-all-requires c κs =
     let at-least = c .before .before .before .before in
-    let start = at-least .before .before .before in
-    let a = start .args in
+    let a = at-least .before .before .before .args in
     let n = at-least .least in
     (search needs, omega (arith, length-take-le (n .result) (a .chunk .now) (n .ensures .0), n .ensures .1 .0))
 
 returns : tie.Need-returns
 returns c =
     let at-least = c .before .before .before .before .before .before .before in
-    let start = at-least .before .before .before in
-    let a = start .args in
+    let a = at-least .before .before .before .args in
     let n = at-least .least in
     let fed = c .before .before .feed-all in
     let used : fed .result .used ≡ n .result = fed .ensures .1 .0 ∙ length-take-le (n .result) (a .chunk .now) (n .ensures .0) in

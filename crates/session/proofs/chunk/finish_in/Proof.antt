@@ -12,8 +12,7 @@ use Rattle.session.proofs.chunk.finish_in.Tie as tie
 returns : tie.Need-returns
 returns c =
     let at-if1 = c .before .before .before .before in
-    let start = at-if1 .before .before .before .before in
-    let a = start .args in
+    let a = at-if1 .before .before .before .before .args in
     finish-both (finish-plain (a .session) (a .region .now) (a .carry .now) (a .held) (omega arith) (at-if1 .if1 .taken) (c .before .before .put-closing .ensures))
 
 slice-aggregate-line-in : tie.Need-slice-aggregate-line-in
@@ -33,8 +32,7 @@ returns-2 c =
     let at-line-in = c .before .before .before .before .before .before .before .before in
     let at-least = at-line-in .before .before .before .before in
     let at-if1 = at-least .before in
-    let start = at-if1 .before .before .before .before in
-    let a = start .args in
+    let a = at-if1 .before .before .before .before .args in
     finish-both (finish-line (a .session) (a .region .now) (a .carry .now) (a .held) (omega arith) (at-if1 .if1 .left) (at-least .least .ensures .1 .1) (at-line-in .line-in .ensures) (c .before .before .put-closing2 .ensures))
 
 pub finish-in-spec : {M : Type 1} → statement M

@@ -10,8 +10,7 @@ returns : tie.Need-returns
 returns c =
     let at-if1 = c .before .before .before .before in
     let at-later-line = at-if1 .before .before in
-    let start = at-later-line .before .before .before .before in
-    let a = start .args in
+    let a = at-later-line .before .before .before .before .args in
     let l = at-later-line .later-line in
     goes (on-bad (a .region .now) (a .run) (a .line .now) (l .ensures) (not-true (l .result .ok) (at-if1 .if1 .taken)))
     (record { session = refl; words = refl; put = c .before .before .put-bad .ensures })
@@ -21,8 +20,7 @@ returns-2 c =
     let at-tick-in = c .before .before .before .before in
     let at-if1 = at-tick-in .before .before .before .before in
     let at-later-line = at-if1 .before .before in
-    let start = at-later-line .before .before .before .before in
-    let a = start .args in
+    let a = at-later-line .before .before .before .before .args in
     let l = at-later-line .later-line in
     goes (on-tick (a .region .now) (a .run) (a .line .now) (l .ensures) (not-false (l .result .ok) (at-if1 .if1 .left)))
     (at-tick-in .tick-in .ensures)

@@ -9,8 +9,7 @@ use Rattle.session.proofs.line.start_block.Tie as tie
 returns : tie.Need-returns
 returns c =
     let at-if1 = c .before .before .before .before in
-    let start = at-if1 .before .before .before in
-    let a = start .args in
+    let a = at-if1 .before .before .before .args in
     goes (start-tight (a .region .now) (a .block) (a .n) (at-if1 .if1 .taken))
     (record { session = refl; words = refl; put = c .before .before .put-bad .ensures })
 
@@ -23,8 +22,7 @@ returns-2 : tie.Need-returns-2
 returns-2 c =
     let at-start = c .before .before .before .before .before .before in
     let at-if1 = at-start .before .before in
-    let start = at-if1 .before .before .before in
-    let a = start .args in
+    let a = at-if1 .before .before .before .args in
     goes (start-runs (a .region .now) (a .block) (a .n) (at-if1 .if1 .left) (at-start .start .ensures))
     (record { session = refl; words = refl; put = c .before .before .put-block .ensures })
 

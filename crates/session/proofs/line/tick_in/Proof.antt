@@ -22,8 +22,7 @@ returns-2 c =
     let at-tick = at-if2 .before .before .before .before in
     let at-if1 = at-tick .before .before in
     let at-size-of = at-if1 .before in
-    let start = at-size-of .before .before .before in
-    let a = start .args in
+    let a = at-size-of .before .before .before .args in
     let n = at-size-of .size-of in
     goes (tick-refused (a .region .now) (a .run) (a .tick) (n .result) (n .ensures) (at-if1 .if1 .left) (at-tick .tick .ensures) (at-if2 .if2 .taken) (c .one-more .ensures))
     (record { session = refl; words = refl; put = c .before .before .before .put-refusal .ensures })
@@ -34,8 +33,7 @@ returns-3 c =
     let at-tick = at-if2 .before .before .before .before in
     let at-if1 = at-tick .before .before in
     let at-size-of = at-if1 .before in
-    let start = at-size-of .before .before .before in
-    let a = start .args in
+    let a = at-size-of .before .before .before .args in
     let n = at-size-of .size-of in
     goes (tick-accepted (a .region .now) (a .run) (a .tick) (n .result) (n .ensures) (at-if1 .if1 .left) (at-tick .tick .ensures) (at-if2 .if2 .left) (c .one-more2 .ensures))
     (record { session = refl; words = refl; put = c .before .before .before .put-answer .ensures })

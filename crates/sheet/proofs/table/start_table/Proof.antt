@@ -10,8 +10,7 @@ start-first-requires c κs = rw (c .before .clipped .ensures) (clipped-few (c .b
 returns : tie.Need-returns
 returns c =
     let at-clipped = c .before .before .before .before in
-    let at-before = at-clipped .before .before in
-    let entry = at-before .before in
+    let entry = at-clipped .before .before .before in
     rw (at-clipped .clipped .ensures, clipped-rows (entry .args .table) (full-of (entry .args .table) _ (entry .good .0))) at (c .before .before .start-first .ensures)
 
 pub start-table-spec : {M : Type 1} → statement M

@@ -18,8 +18,8 @@ returns-3 : tie.Need-returns-3
 unfolding formed
 returns-3 c =
     let at-if1 = c .before .before .before .before .before in
-    let start = at-if1 .before .before .before in
-    let a = start .args in rw (c .refused3 .ensures, at-if1 .if1 .left, eq-eqb (a .walk .at) (a .words) (c .before .before .before .if2 .left), sym (c .before .before .twice .ensures) ∙ not-true (c .before .before .twice .result) (c .before .if3 .taken)) refl
+    let a = at-if1 .before .before .before .args in
+    rw (c .refused3 .ensures, at-if1 .if1 .left, eq-eqb (a .walk .at) (a .words) (c .before .before .before .if2 .left), sym (c .before .before .twice .ensures) ∙ not-true (c .before .before .twice .result) (c .before .if3 .taken)) refl
 
 returns-4 : tie.Need-returns-4
 unfolding formed
@@ -27,8 +27,8 @@ returns-4 c =
     let at-twice = c .before .before .before .before in
     let at-if2 = at-twice .before in
     let at-if1 = at-if2 .before .before in
-    let start = at-if1 .before .before .before in
-    let a = start .args in rw (c .refused4 .ensures, at-if1 .if1 .left, eq-eqb (a .walk .at) (a .words) (at-if2 .if2 .left), sym (at-twice .twice .ensures) ∙ not-false (at-twice .twice .result) (c .before .before .before .if3 .left), sym (c .before .before .is-finite .ensures) ∙ not-true (c .before .before .is-finite .result) (c .before .if4 .taken)) refl
+    let a = at-if1 .before .before .before .args in
+    rw (c .refused4 .ensures, at-if1 .if1 .left, eq-eqb (a .walk .at) (a .words) (at-if2 .if2 .left), sym (at-twice .twice .ensures) ∙ not-false (at-twice .twice .result) (c .before .before .before .if3 .left), sym (c .before .before .is-finite .ensures) ∙ not-true (c .before .before .is-finite .result) (c .before .if4 .taken)) refl
 
 returns-5 : tie.Need-returns-5
 unfolding formed
@@ -38,8 +38,8 @@ returns-5 c =
     let at-twice = at-if3 .before in
     let at-if2 = at-twice .before in
     let at-if1 = at-if2 .before .before in
-    let start = at-if1 .before .before .before in
-    let a = start .args in rw (c .refused5 .ensures, at-if1 .if1 .left, eq-eqb (a .walk .at) (a .words) (at-if2 .if2 .left), sym (at-twice .twice .ensures) ∙ not-false (at-twice .twice .result) (at-if3 .if3 .left), sym (at-is-finite .is-finite .ensures) ∙ not-false (at-is-finite .is-finite .result) (c .before .before .before .if4 .left), ne-eqb (a .walk .refusal) 0 (c .before .if5 .taken)) refl
+    let a = at-if1 .before .before .before .args in
+    rw (c .refused5 .ensures, at-if1 .if1 .left, eq-eqb (a .walk .at) (a .words) (at-if2 .if2 .left), sym (at-twice .twice .ensures) ∙ not-false (at-twice .twice .result) (at-if3 .if3 .left), sym (at-is-finite .is-finite .ensures) ∙ not-false (at-is-finite .is-finite .result) (c .before .before .before .if4 .left), ne-eqb (a .walk .refusal) 0 (c .before .if5 .taken)) refl
 
 returns-6 : tie.Need-returns-6
 unfolding formed
@@ -49,8 +49,8 @@ returns-6 c =
     let at-twice = at-if3 .before in
     let at-if2 = at-twice .before in
     let at-if1 = at-if2 .before .before in
-    let start = at-if1 .before .before .before in
-    let a = start .args in rw (c .ready .ensures, at-if1 .if1 .left, eq-eqb (a .walk .at) (a .words) (at-if2 .if2 .left), sym (at-twice .twice .ensures) ∙ not-false (at-twice .twice .result) (at-if3 .if3 .left), sym (at-is-finite .is-finite .ensures) ∙ not-false (at-is-finite .is-finite .result) (c .before .before .before .if4 .left), eq-eqb (a .walk .refusal) 0 (c .before .if5 .left)) refl
+    let a = at-if1 .before .before .before .args in
+    rw (c .ready .ensures, at-if1 .if1 .left, eq-eqb (a .walk .at) (a .words) (at-if2 .if2 .left), sym (at-twice .twice .ensures) ∙ not-false (at-twice .twice .result) (at-if3 .if3 .left), sym (at-is-finite .is-finite .ensures) ∙ not-false (at-is-finite .is-finite .result) (c .before .before .before .if4 .left), eq-eqb (a .walk .refusal) 0 (c .before .if5 .left)) refl
 
 pub formed-spec : {M : Type 1} → statement M
 formed-spec =

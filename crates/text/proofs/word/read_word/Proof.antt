@@ -25,9 +25,8 @@ unfolding wordItem
 returns-2 c =
     let at-loop = c .before .before .before .before in
     let at-if1 = at-loop .before in
-    let start = at-if1 .before .before in
     let l = at-loop .loop in
-    let s = start .args .s .now in
+    let s = at-if1 .before .before .args .s .now in
     let d : 16 ≤ digitValue (getD s (l .i) 0) = rw (c .before .digit-value .ensures) at (c .if2 .taken) in
     simp (eq-eqb _ _ (at-if1 .if1 .left))
     (sym (hex-other (l .word) s (l .i) (omega arith) d) ∙ l .inv .2)
@@ -45,9 +44,8 @@ add-word c =
 loop-again : tie.Need-loop-again Inv-loop μ-loop
 loop-again c =
     let at-loop = c .before .before .before .before in
-    let start = at-loop .before .before .before in
     let l = at-loop .loop in
-    let s = start .args .s .now in
+    let s = at-loop .before .before .before .args .s .now in
     let e = c .before .digit-value .ensures in
     let d : digitValue (getD s (l .i) 0) < 16 = rw e at (c .if2 .left) in (
       search needs,

@@ -70,7 +70,7 @@ int main(void) {
         [OVEN_TRUE_DELAY_DELAY_ON_INIT] = 1,
     };
     const uint64_t ticks[] = {oven_word(2.0), 1, 0, 0, oven_word(1.0), 1, 0, 0, oven_word(3.0), 0, 0, 0};
-    uint64_t region[OVEN_TRUE_DELAY_LENGTH], answers[12];
+    uint64_t region[OVEN_TRUE_DELAY_LENGTH], answers[3 * OVEN_ANSWER_WORDS];
 
     struct oven_length length = oven_length(block, settings, 2);
     const uint64_t words[] = {length.refusal, length.length};
@@ -88,15 +88,18 @@ int main(void) {
     const uint64_t ran = oven_run(block, settings, 2, ticks, 12, region, 4, answers, 12);
     show("run", &ran, 1);
     for (size_t n = 0; n < 3; n++) {
-        show("", answers + 4 * n, 4);
+        show("", answers + OVEN_ANSWER_WORDS * n, OVEN_ANSWER_WORDS);
     }
+    const uint64_t no_number[OVEN_TRUE_DELAY_SETTINGS] = {OVEN_UNSET, 1}; /* a NaN */
     const uint64_t refused[] = {
         oven_start(7, settings, 2, region, 4),
         oven_start(block, settings, 1, region, 4),
         oven_run(block, settings, 2, ticks, 11, region, 4, answers, 11),
         oven_run(block, settings, 2, ticks, 12, region, 4, answers, 8),
+        oven_run(block, no_number, 2, ticks, 12, region, 4, answers, 12),
+        oven_run(block, settings, 2, ticks, 12, region, 3, answers, 12),
     };
-    show("refused", refused, 4);
+    show("refused", refused, 6);
     sheet();
     return 0;
 }

@@ -1,6 +1,7 @@
 /* The list of calls that bytes stand for: calls of one block on one region, or of one sheet. */
 #include "boundary.h"
 #include "checks.h"
+#include "classes.h"
 #include "due.h"
 
 /* Words of regions that one list may take; it keeps a list of a large ring short. */
@@ -43,7 +44,7 @@ static void some_settings(struct bytes *b, uint64_t block, uint64_t *settings) {
     }
     if (block == OVEN_PID || block == OVEN_PID_WITH_RESET) {
         settings[OVEN_PID_TYPE] = choose(b, 4);
-        settings[OVEN_PID_REVERSE_ACTING] = choose(b, 2);
+        settings[OVEN_PID_REVERSE_ACTING] = choose(b, 2) == 0 ? choose(b, 2) : any_word(b);
     }
 }
 
@@ -56,11 +57,22 @@ static void some_region(struct bytes *b, size_t len) {
     }
 }
 
+/* Puts a block at rest: its previous time is 0.0, its reals are -0.0 and its booleans any. */
+static void put_at_rest(struct bytes *b) {
+    const char *layout = due_layout(bench.block, bench.settings);
+    for (size_t n = 0; layout[n] != 0; n++) {
+        bench_region[n] = strchr("irfs", layout[n]) != NULL ? 1ULL << 63 : layout[n] == 't' ? 0 : choose(b, 2);
+    }
+}
+
 static void begin_block(struct bytes *b) {
     bench.block = some_block(b);
     bench.settings_len = due_settings(bench.block);
     some_settings(b, bench.block, bench.settings);
     some_region(b, due_length(bench.block, bench.settings));
+    if (choose(b, 3) == 0) {
+        put_at_rest(b);
+    }
 }
 
 static void begin_sheet(struct bytes *b) {
@@ -81,20 +93,14 @@ static void begin_sheet(struct bytes *b) {
 
 /* ---- What is wrong with a call, if anything is. */
 
-/* Another length than this one: one more, one less, none, or any up to this most. */
+/* Another length than this one: so far off, or any up to this most. */
 static size_t wrong_length(struct bytes *b, size_t len, size_t most) {
-    switch (choose(b, 5)) {
-    case 0:
-        return len < most ? len + 1 : len;
-    case 1:
-        return len > 0 ? len - 1 : 1;
-    case 2:
-        return 0;
-    case 3:
+    const size_t choice = choose(b, OFFS + 2);
+    if (choice == OFFS) {
         return choose(b, 64);
-    default:
-        return choose(b, choose(b, 8) == 0 ? 65536 : 4096) % most;
     }
+    const size_t other = choice < OFFS ? off_length((enum off)choice, len) : choose(b, choose(b, 8) == 0 ? 65536 : 4096);
+    return other <= most ? other : other % most;
 }
 
 /* Damages a word of the region, for this call and those to come: a header's word, or any. */
@@ -173,19 +179,23 @@ static void spoil_sheet(struct bytes *b, struct call *c) {
 
 /* ---- Calls. */
 
+/* An input: as a boolean it is false one time in three. */
+static uint64_t some_input(struct bytes *b) { return choose(b, 3) == 0 ? 0 : any_word(b); }
+
 /* Ticks of a run: a few, or many of a short region. Their number of words and the answers' may be wrong. */
 static void some_ticks(struct bytes *b, struct call *c) {
     const size_t many = choose(b, 16) == 0 && c->region.len < 16 ? 1 + choose(b, 64) : choose(b, 8);
     double now = bench.now;
-    for (uint64_t *tick = bench.ticks; tick < bench.ticks + 4 * many; tick += 4) {
+    for (uint64_t *tick = bench.ticks; tick < bench.ticks + OVEN_TICK_WORDS * many; tick += OVEN_TICK_WORDS) {
         tick[0] = any_time(b, now);
-        for (size_t n = 1; n < 4; n++) {
-            tick[n] = any_word(b);
+        for (size_t n = 1; n < OVEN_TICK_WORDS; n++) {
+            tick[n] = some_input(b);
         }
         now = is_finite(tick[0]) ? oven_real(tick[0]) : now;
     }
-    c->ticks = (struct words){bench.ticks, choose(b, 12) == 11 ? wrong_length(b, 4 * many, MOST) : 4 * many};
-    c->answers.len = choose(b, 12) == 11 ? wrong_length(b, c->ticks.len, MOST) : c->ticks.len;
+    const size_t words = OVEN_TICK_WORDS * many, answers = OVEN_ANSWER_WORDS * many;
+    c->ticks = (struct words){bench.ticks, choose(b, 12) == 11 ? wrong_length(b, words, MOST) : words};
+    c->answers.len = choose(b, 12) == 11 ? wrong_length(b, answers, MOST) : answers;
 }
 
 /* Takes over what an accepted call has left. */
@@ -194,8 +204,8 @@ static void go_on(const struct call *c, const struct outcome *o) {
         return;
     }
     memcpy(bench_region, o->region, c->region.len * sizeof *bench_region);
-    if (c->kind == RUN && c->ticks.len >= 4) {
-        const uint64_t last = c->ticks.at[c->ticks.len - 4];
+    if (c->kind == RUN && c->ticks.len >= OVEN_TICK_WORDS) {
+        const uint64_t last = c->ticks.at[c->ticks.len - OVEN_TICK_WORDS];
         bench.now = is_finite(last) ? oven_real(last) : bench.now;
     } else if (c->kind == START || c->kind == SHEET_START) {
         bench.now = 0.0;
@@ -212,7 +222,7 @@ static void one_call(struct bytes *b, bool of_sheet) {
     c.kind = of_sheet ? (choose(b, 6) == 0 ? SHEET_START : SHEET_TICK) : kinds[choose(b, 10)];
     c.time = any_time(b, bench.now);
     for (size_t n = 0; n < (of_sheet ? 8 : 3); n++) {
-        c.inputs[n] = any_word(b);
+        c.inputs[n] = some_input(b);
     }
     if (of_sheet) {
         c.rows = (struct words){bench.rows, bench.rows_len};

@@ -82,6 +82,9 @@ uint64_t any_time(struct bytes *b, double now) {
     static const double steps[] = {1.0, 0.125, 1e-3, 1e-9, 60.0, 3600.0, 1e6, 0.1};
     const size_t choice = choose(b, 32);
     const double step = steps[choice % 8];
+    if (oven_word(now) == 0 && choice % 2 == 0) {
+        return 1ULL << 63;
+    }
     if (choice < 22) {
         return oven_word(now + step);
     }

@@ -19,7 +19,7 @@ uint64_t any_word(struct bytes *bytes);
 /* The word of a finite real, mostly a small one. */
 uint64_t finite_word(struct bytes *bytes);
 
-/* The word of a time: after this one, equal to it, before it, or any word. */
+/* The word of a time: after this one, equal to it (half of those to 0.0 are -0.0), before it, or any word. */
 uint64_t any_time(struct bytes *bytes, double now);
 
 #endif

@@ -1,5 +1,6 @@
 /* The checks of a call: its number, what it leaves as it was, what it gives, and that other calls give the same. */
 #include "checks.h"
+#include "classes.h"
 #include "due.h"
 
 #include <inttypes.h>
@@ -65,13 +66,14 @@ static void check_answer(const struct call *c, const uint64_t *said) {
     require(said[3] <= can_warn, "the warning");
 }
 
-/* The words that a stored tick leaves: its time, reals canonical, booleans 0 or 1, and at most one point of a ring written. The
- * start time is written on a first tick alone, and the coalesced word with the warning. */
+/* The words that a stored tick leaves: its time, a timer's sum, reals canonical, booleans 0 or 1, and at most one point of a ring
+ * written. The start time is written on a first tick alone, and the coalesced word with the warning. */
 static void check_stored(const struct call *c, const uint64_t *region, uint64_t warning) {
     const char *layout = due_layout(c->block, c->settings.at);
     const uint64_t *before = c->region.at;
     size_t n = 0, points = 0;
     for (; layout[n] != 0; n++) {
+        require(n != due_sum_place(c->block) || region[n] == due_sum(c, region), "the stored sum");
         require(layout[n] != 't' || region[n] == c->time, "the stored time");
         require(strchr("irf", layout[n]) == NULL || region[n] == due_canonical(region[n]), "a stored real");
         require(strchr("gb", layout[n]) == NULL || region[n] <= 1, "a stored boolean");
@@ -106,6 +108,45 @@ static const struct outcome *made(const struct call *c, enum kind kind, struct w
     part.time = is_finite(c->time) ? c->time : 0; /* a start takes no time, so it may be any word */
     make(&part, GUARD_BEHIND, false, &other);
     return &other;
+}
+
+/* Whether two calls of this kind gave and left the same. */
+static bool is_same(const struct call *c, const struct outcome *one, const struct outcome *two) {
+    return same_words(one->said, two->said, 7) &&
+           (!writes_region(c->kind) || same_words(one->region, two->region, c->region.len)) &&
+           (!writes_answers(c->kind) || same_words(one->answers, two->answers, c->answers.len));
+}
+
+/* Makes a boolean setting that is true 1; whether it was another word. */
+static bool make_one(uint64_t block, uint64_t *settings) {
+    const size_t place = due_boolean_setting(block);
+    if (place >= due_settings(block) || settings[place] <= 1) {
+        return false;
+    }
+    settings[place] = 1;
+    return true;
+}
+
+/* As a boolean setting every word but 0 is true: an accepted call with 1 in its place gives and leaves the same. */
+static void check_true_settings(const struct call *c, const struct outcome *o) {
+    static uint64_t words[MOST];
+    struct call plain = *c;
+    bool changed = false;
+    if (is_sheet(c->kind)) {
+        memcpy(words, c->rows.at, c->rows.len * sizeof *words);
+        plain.rows.at = words;
+        for (uint64_t *row = words; row < words + c->rows.len; row += OVEN_ROW_WORDS) {
+            changed |= make_one(row[OVEN_ROW_BLOCK], row + OVEN_ROW_SETTINGS);
+        }
+    } else {
+        memcpy(words, c->settings.at, c->settings.len * sizeof *words);
+        plain.settings.at = words;
+        changed = make_one(c->block, words);
+    }
+    if (changed) {
+        make(&plain, GUARD_BEHIND, false, &other);
+        require(is_same(c, o, &other), "another true word in the place of a boolean setting makes a difference");
+    }
 }
 
 static void accepted_length(const struct call *c, const struct outcome *o) {
@@ -147,13 +188,15 @@ static void accepted_run(const struct call *c, const struct outcome *o) {
     tick.kind = TICK;
     tick.region = (struct words){region, c->region.len};
     memcpy(region, c->region.at, c->region.len * sizeof *region);
-    for (size_t n = 0; n < c->ticks.len; n += 4) {
-        tick.time = c->ticks.at[n];
-        memcpy(tick.inputs, c->ticks.at + n + 1, 3 * sizeof *region);
+    for (size_t n = 0; n < c->ticks.len / OVEN_TICK_WORDS; n++) {
+        const uint64_t *words = c->ticks.at + OVEN_TICK_WORDS * n;
+        tick.time = words[0];
+        memcpy(tick.inputs, words + 1, (OVEN_TICK_WORDS - 1) * sizeof *region);
         const struct due due = due_of(&tick);
         make(&tick, GUARD_BEHIND, due.number != OVEN_ACCEPTED, &one);
         require(one.said[0] == due.number, "the number of a run's tick made singly");
-        require(same_words(o->answers + n, one.said, 4), "an answer of a run is not its tick's");
+        const uint64_t *answer = o->answers + OVEN_ANSWER_WORDS * n;
+        require(same_words(answer, one.said, OVEN_ANSWER_WORDS), "an answer of a run is not its tick's");
         memcpy(region, one.region, c->region.len * sizeof *region);
         run_ticks++;
     }
@@ -232,13 +275,12 @@ void check_call(const struct call *c, struct outcome *o) {
     make(c, GUARD_BEHIND, due.number != OVEN_ACCEPTED, o);
     make(c, GUARD_BEFORE, due.number != OVEN_ACCEPTED, &again);
     require(o->said[0] == (c->kind == SOUND ? due.number == OVEN_ACCEPTED : due.number), "the number");
-    require(same_words(o->said, again.said, 7), "the same call answers otherwise");
-    require(!writes_region(c->kind) || same_words(o->region, again.region, c->region.len), "the same call leaves another region");
-    require(!writes_answers(c->kind) || same_words(o->answers, again.answers, c->answers.len),
-            "the same call leaves other answers");
+    require(is_same(c, o, &again), "the same call gives or leaves other words");
     counts[c->kind][due.number]++;
+    count_classes(c, o, due.number);
     mark(c, o->said, due.number);
     if (due.number == OVEN_ACCEPTED) {
+        check_true_settings(c, o);
         accepted[c->kind](c, o);
     } else if (c->kind != SOUND) {
         check_refused(c, o, due);

@@ -4,7 +4,7 @@
 enum { BLOCKS = 7, TYPES = 4, ROWS_MOST = 16, COLUMNS = 8 };
 
 static const struct {
-    size_t settings, first_real, reals;
+    size_t settings, first_real, reals; /* a boolean setting comes behind the reals */
     bool has_real, has_boolean;
 } facts[BLOCKS] = {
     [OVEN_PID] = {OVEN_PID_SETTINGS, OVEN_PID_K, 11, true, false},
@@ -17,6 +17,7 @@ static const struct {
 };
 
 size_t due_settings(uint64_t block) { return facts[block].settings; }
+size_t due_boolean_setting(uint64_t block) { return facts[block].first_real + facts[block].reals; }
 bool has_real(uint64_t block) { return facts[block].has_real; }
 bool has_boolean(uint64_t block) { return facts[block].has_boolean; }
 
@@ -89,8 +90,9 @@ static uint64_t due_number(const struct call *c) {
     if (c->block >= BLOCKS || c->settings.len != facts[c->block].settings || !is_named(c->block, settings)) {
         return OVEN_NO_BLOCK;
     }
-    if (c->kind == RUN) { /* the other numbers are of its ticks */
-        return c->ticks.len % 4 != 0 || c->answers.len != c->ticks.len ? OVEN_BAD_TICKS : OVEN_ACCEPTED;
+    if (c->kind == RUN &&
+        (c->ticks.len % OVEN_TICK_WORDS != 0 || c->answers.len != c->ticks.len / OVEN_TICK_WORDS * OVEN_ANSWER_WORDS)) {
+        return OVEN_BAD_TICKS;
     }
     if (!are_settings_finite(c->block, settings)) {
         return OVEN_BAD_SETTING;
@@ -101,7 +103,7 @@ static uint64_t due_number(const struct call *c) {
     if (c->region.len != due_length(c->block, settings)) {
         return OVEN_BAD_LENGTH;
     }
-    if (c->kind == START) {
+    if (c->kind == START || c->kind == RUN) { /* of a run, the other numbers are its ticks' */
         return OVEN_ACCEPTED;
     }
     const bool ticks = c->kind != SOUND && c->kind != DECODE;
@@ -155,7 +157,7 @@ static size_t topmost(const struct call *c, fault *has_fault) {
     return rows;
 }
 
-static size_t sheet_length(const struct call *c) {
+size_t due_sheet_length(const struct call *c) {
     size_t sum = 0;
     for (size_t n = 0; n < c->rows.len; n += OVEN_ROW_WORDS) {
         sum += due_length(c->rows.at[n], c->rows.at + n + OVEN_ROW_SETTINGS);
@@ -174,7 +176,7 @@ static struct due due_sheet(const struct call *c) {
     if (topmost(c, has_bad_setting) < rows) {
         return (struct due){OVEN_BAD_SETTING, topmost(c, has_bad_setting)};
     }
-    if (c->region.len != sheet_length(c)) {
+    if (c->region.len != due_sheet_length(c)) {
         return (struct due){OVEN_BAD_LENGTH, 0};
     }
     if (c->kind == SHEET_START) {
@@ -209,6 +211,65 @@ void due_start(uint64_t block, const uint64_t *settings, uint64_t *region) {
         region[OVEN_TIMER_ACCUMULATING_STATE_PASSED] = oven_real(settings[0]) <= 0.0;
     }
 }
+
+/* ---- Timers: the sum of gaps that they store. */
+
+size_t due_sum_place(uint64_t block) {
+    static const size_t places[BLOCKS] = {REGION_MOST,
+                                          REGION_MOST,
+                                          REGION_MOST,
+                                          OVEN_TIMER_ACCUMULATING_STATE_TOTAL,
+                                          OVEN_TRUE_DELAY_STATE_TIMER,
+                                          OVEN_HOLD_STATE_TIMER,
+                                          OVEN_HOLD_STATE_TIMER};
+    return places[block];
+}
+
+/* A stored sum and the gap since a previous time that is set. */
+static uint64_t grown(const struct call *c, uint64_t sum, uint64_t previous) {
+    return due_canonical(oven_word(oven_real(sum) + (oven_real(c->time) - oven_real(previous))));
+}
+
+/* A rising reset wipes the total, and a gap counts whose both ends had a true input. */
+static uint64_t due_total(const struct call *c) {
+    const uint64_t *w = c->region.at, total = w[OVEN_TIMER_ACCUMULATING_STATE_TOTAL];
+    const uint64_t previous = w[OVEN_TIMER_ACCUMULATING_STATE_PREVIOUS_TIME];
+    if (c->inputs[1] != 0 && w[OVEN_TIMER_ACCUMULATING_STATE_PREVIOUS_RESET] == 0) {
+        return 0;
+    }
+    const bool counts = c->inputs[0] != 0 && w[OVEN_TIMER_ACCUMULATING_STATE_PREVIOUS_INPUT] != 0 && previous != OVEN_UNSET;
+    return counts ? grown(c, total, previous) : due_canonical(total);
+}
+
+/* A held output stores the delay; a first true input holds unless delay_on_init says otherwise. */
+static uint64_t due_delay(const struct call *c) {
+    const uint64_t *w = c->region.at, previous = w[OVEN_TRUE_DELAY_STATE_PREVIOUS_TIME];
+    const uint64_t set = c->settings.at[OVEN_TRUE_DELAY_DELAY_TIME], delay = oven_real(set) > 0.0 ? set : 0;
+    if (c->inputs[0] == 0) {
+        return 0;
+    }
+    if (previous == OVEN_UNSET) {
+        return c->settings.at[OVEN_TRUE_DELAY_DELAY_ON_INIT] != 0 ? 0 : delay;
+    }
+    if (w[OVEN_TRUE_DELAY_STATE_HELD] != 0) {
+        return delay;
+    }
+    return w[OVEN_TRUE_DELAY_STATE_PREVIOUS_INPUT] == 0 ? 0 : grown(c, w[OVEN_TRUE_DELAY_STATE_TIMER], previous);
+}
+
+/* A hold's timer goes on while its output stays: of TrueHoldWithReset, while it stays true. */
+static uint64_t due_hold(const struct call *c, const uint64_t *after) {
+    const uint64_t *w = c->region.at, held = after[OVEN_HOLD_STATE_HELD], previous = w[OVEN_HOLD_STATE_PREVIOUS_TIME];
+    const bool stays = previous != OVEN_UNSET && held == (w[OVEN_HOLD_STATE_HELD] != 0);
+    const bool counts = stays && (c->block == OVEN_TRUE_FALSE_HOLD || held != 0);
+    return counts ? grown(c, w[OVEN_HOLD_STATE_TIMER], previous) : 0;
+}
+
+uint64_t due_sum(const struct call *c, const uint64_t *after) {
+    return c->block == OVEN_TIMER_ACCUMULATING ? due_total(c) : c->block == OVEN_TRUE_DELAY ? due_delay(c) : due_hold(c, after);
+}
+
+/* ---- Decoding. */
 
 void due_state(uint64_t block, const uint64_t *settings, const uint64_t *region, uint64_t *state) {
     static const char places[] = "itfg"; /* of a controller's words */

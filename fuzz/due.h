@@ -15,17 +15,26 @@ struct due due_of(const struct call *call);
  * make it 0. */
 size_t due_length(uint64_t block, const uint64_t *settings);
 
+/* The lengths of a sheet's rows together. */
+size_t due_sheet_length(const struct call *call);
+
 /* The kinds of its state words, a letter each: t previous time; reals: i integrator, f filter, s start time, r another; h head,
  * n count; booleans: g trigger, c coalesced, b another. The points of a moving average come after them. */
 const char *due_layout(uint64_t block, const uint64_t *settings);
 
-/* How many settings it has, and which outputs. */
+/* How many settings it has, the place of the boolean one (behind the last if it has none), and which outputs. */
 size_t due_settings(uint64_t block);
+size_t due_boolean_setting(uint64_t block);
 bool has_real(uint64_t block);
 bool has_boolean(uint64_t block);
 
 /* The words of a fresh start. */
 void due_start(uint64_t block, const uint64_t *settings, uint64_t *region);
+
+/* Where a block keeps a sum of gaps, and what an accepted update of it leaves there, by the flags before and after it; the place
+ * is behind the last word of a block that is no timer. */
+size_t due_sum_place(uint64_t block);
+uint64_t due_sum(const struct call *call, const uint64_t *after);
 
 /* The six words that a region decodes to. */
 void due_state(uint64_t block, const uint64_t *settings, const uint64_t *region, uint64_t *state);

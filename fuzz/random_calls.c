@@ -4,12 +4,13 @@
  * usage: random_calls CALLS SEED [INPUT]
  *
  * Inputs are made from the seed and their number, from INPUT on (from 0 else), until there were so many calls. The last lines
- * say what was compared, and 'N passed, M failed': a test for each call of the boundary and for each number. A call that fails
- * a check or faults is told, with the command that makes it again.
+ * say what was compared, and 'N passed, M failed': a test for each call of the boundary, for each number and for each class of
+ * fuzz/classes.h. A call that fails a check or faults is told, with the command that makes it again.
  */
 #include "boundary.h"
 #include "caught.h"
 #include "checks.h"
+#include "classes.h"
 
 #include <inttypes.h>
 #include <stdio.h>
@@ -64,6 +65,7 @@ static int report(uint64_t lists) {
         printf("%s: %" PRIu64 " calls, %" PRIu64 " accepted\n", kind_name(kind), calls_of(kind), counts[kind][OVEN_ACCEPTED]);
         *(counts[kind][OVEN_ACCEPTED] > 0 ? &passed : &failed) += 1;
     }
+    report_classes(&passed, &failed);
     printf("%d passed, %d failed\n", passed, failed);
     return failed;
 }

@@ -28,6 +28,18 @@ enum slip {
     SWAPS_ROWS,
     NAMES_THE_FIRST_ROW,
     WRITES_ANSWERS_ON_REFUSAL,
+    READS_A_SETTING_AS_1,
+    READS_A_ROWS_SETTING_BY_ITS_LOW_BIT,
+    LOSES_THE_SIGN_OF_A_SUM,
+    COMPARES_LOW_BYTES_OF_LENGTHS,
+    TAKES_A_SHEETS_LONGER_REGION,
+    TAKES_A_LARGER_ANSWER_SPACE,
+    RUNS_REFUSED_SETTINGS,
+    ANSWERS_A_REFUSED_RUN,
+    UPDATES_BEFORE_IT_EMITS,
+    WARNS_FOR_THE_LAST_ROW,
+    STORES_A_ROW_ON_REFUSAL,
+    TAKES_SEVENTEEN_ROWS,
     SLIPS
 };
 
@@ -56,6 +68,32 @@ PAIR(oven_sound);
 PAIR(oven_decode);
 PAIR(oven_sheet_tick);
 
+/* How many settings a block has, and how many words its region. */
+static size_t settings_of(uint64_t block) {
+    static const size_t counts[] = {OVEN_PID_SETTINGS, OVEN_PID_SETTINGS, 1, 1, 2, 2, 1};
+    return counts[block];
+}
+static size_t length_of(uint64_t block, const uint64_t *s) { return __real_oven_length(block, s, settings_of(block)).length; }
+
+/* The settings of a tick as the library reads them. */
+static const uint64_t *as_read(uint64_t block, const uint64_t *s, size_t ns) {
+    static uint64_t read[OVEN_TRUE_DELAY_SETTINGS];
+    if (!has(READS_A_SETTING_AS_1) || block != OVEN_TRUE_DELAY || ns != OVEN_TRUE_DELAY_SETTINGS) {
+        return s;
+    }
+    read[OVEN_TRUE_DELAY_DELAY_TIME] = s[OVEN_TRUE_DELAY_DELAY_TIME];
+    read[OVEN_TRUE_DELAY_DELAY_ON_INIT] = s[OVEN_TRUE_DELAY_DELAY_ON_INIT] == 1;
+    return read;
+}
+
+/* A timer's total of -0.0 that a tick has stored. */
+static void lose_sign(uint64_t block, uint64_t number, uint64_t *w) {
+    if (has(LOSES_THE_SIGN_OF_A_SUM) && number == OVEN_ACCEPTED && block == OVEN_TIMER_ACCUMULATING &&
+        w[OVEN_TIMER_ACCUMULATING_STATE_TOTAL] == 1ULL << 63) {
+        w[OVEN_TIMER_ACCUMULATING_STATE_TOTAL] = 0;
+    }
+}
+
 /* Reads a word, whatever the compiler thinks of it. */
 static void touch(const uint64_t *word) { (void)*(const volatile uint64_t *)word; }
 
@@ -82,6 +120,7 @@ uint64_t __wrap_oven_start(uint64_t block, const uint64_t *s, size_t ns, uint64_
 
 struct oven_answer __wrap_oven_emit(uint64_t block, const uint64_t *s, size_t ns, uint64_t time, uint64_t first, uint64_t second,
                                     uint64_t third, const uint64_t *w, size_t nw) {
+    s = as_read(block, s, ns);
     struct oven_answer a = __real_oven_emit(block, s, ns, time, first, second, third, w, nw);
     if (has(READS_PAST_THE_REGION) && nw > 0) {
         touch(w + nw);
@@ -98,11 +137,16 @@ struct oven_answer __wrap_oven_emit(uint64_t block, const uint64_t *s, size_t ns
 struct oven_answer __wrap_oven_update(uint64_t block, const uint64_t *s, size_t ns, uint64_t time, uint64_t first, uint64_t second,
                                       uint64_t third, uint64_t *w, size_t nw) {
     const uint64_t before = nw > 1 ? w[1] : 0;
+    s = as_read(block, s, ns);
     struct oven_answer a = __real_oven_update(block, s, ns, time, first, second, third, w, nw);
+    if (has(COMPARES_LOW_BYTES_OF_LENGTHS) && a.refusal == OVEN_BAD_LENGTH && nw % 256 == length_of(block, s) % 256) {
+        a = __real_oven_update(block, s, ns, time, first, second, third, w, length_of(block, s));
+    }
+    lose_sign(block, a.refusal, w);
     if (has(WRITES_PAST_THE_REGION) && nw > 0) {
         w[nw] = 0;
     }
-    if (has(FORGETS_TO_STORE) && nw > 1) {
+    if (has(FORGETS_TO_STORE) && a.refusal == OVEN_ACCEPTED && nw > 1) {
         w[1] = before;
     }
     if (has(GIVES_7_FOR_5) && a.refusal == OVEN_BAD_TIME) {
@@ -117,7 +161,9 @@ struct oven_answer __wrap_oven_tick(uint64_t block, const uint64_t *s, size_t ns
     if (has(REFUSES_AN_EQUAL_TIME) && block == OVEN_TRUE_DELAY && nw == OVEN_TRUE_DELAY_LENGTH && w[1] == time) {
         return (struct oven_answer){OVEN_TIME_RUNS_BACK, 0, 0, 0};
     }
+    s = as_read(block, s, ns);
     struct oven_answer a = __real_oven_tick(block, s, ns, time, first, second, third, w, nw);
+    lose_sign(block, a.refusal, w);
     if (has(CHANGES_A_WORD_ON_REFUSAL) && a.refusal == OVEN_TIME_RUNS_BACK) {
         w[0] ^= 1;
     }
@@ -129,8 +175,19 @@ struct oven_answer __wrap_oven_tick(uint64_t block, const uint64_t *s, size_t ns
 
 uint64_t __wrap_oven_run(uint64_t block, const uint64_t *s, size_t ns, const uint64_t *ticks, size_t nt, uint64_t *w, size_t nw,
                          uint64_t *answers, size_t na) {
-    const size_t left_out = has(LEAVES_OUT_A_TICK) && nt == na && nt >= 8 ? 4 : 0;
-    return __real_oven_run(block, s, ns, ticks, nt - left_out, w, nw, answers, na - left_out);
+    if (has(LEAVES_OUT_A_TICK) && nt >= 2 * OVEN_TICK_WORDS && na >= 2 * OVEN_ANSWER_WORDS) {
+        nt -= OVEN_TICK_WORDS;
+        na -= OVEN_ANSWER_WORDS;
+    }
+    s = as_read(block, s, ns);
+    const uint64_t number = __real_oven_run(block, s, ns, ticks, nt, w, nw, answers, na);
+    const int refuses_ticks = number == OVEN_BAD_SETTING || number == OVEN_BAD_LENGTH;
+    if (has(ANSWERS_A_REFUSED_RUN) && refuses_ticks) {
+        for (size_t n = 0; n < na; n++) {
+            answers[n] = n % OVEN_ANSWER_WORDS == 0 ? number : 0;
+        }
+    }
+    return has(RUNS_REFUSED_SETTINGS) && refuses_ticks ? OVEN_ACCEPTED : number;
 }
 
 uint64_t __wrap_oven_sound(uint64_t block, const uint64_t *s, size_t ns, const uint64_t *w, size_t nw) {
@@ -151,9 +208,67 @@ struct oven_state __wrap_oven_decode(uint64_t block, const uint64_t *s, size_t n
     return a;
 }
 
+/* Rows as a library has them that reads a boolean setting by its low bit. */
+static const uint64_t *low_bits(const uint64_t *rows, size_t nr) {
+    static uint64_t read[16 * OVEN_ROW_WORDS];
+    if (nr > 16 * OVEN_ROW_WORDS || nr % OVEN_ROW_WORDS != 0) {
+        return rows;
+    }
+    for (size_t n = 0; n < nr; n++) {
+        const int is_direction = rows[n - n % OVEN_ROW_WORDS] <= OVEN_PID_WITH_RESET &&
+                                 n % OVEN_ROW_WORDS == OVEN_ROW_SETTINGS + OVEN_PID_REVERSE_ACTING;
+        read[n] = is_direction ? rows[n] & 1 : rows[n];
+    }
+    return read;
+}
+
+/* The answers of rows that emit after they have updated. */
+static void emit_late(const uint64_t *rows, size_t nr, uint64_t time, const uint64_t *words, const uint64_t *w, size_t nw,
+                      uint64_t *answers, size_t na) {
+    uint64_t *copy = malloc((nw + 1) * sizeof *copy);
+    if (nw > 0) {
+        memcpy(copy, w, nw * sizeof *copy);
+    }
+    __real_oven_sheet_tick(rows, nr, time, words, copy, nw, answers, na);
+    free(copy);
+}
+
+/* A tick of a sheet that is refused for its number of rows, its region's length or its answer space, as a library makes it that
+ * takes more. */
+static struct oven_sheet_answer take_more(struct oven_sheet_answer a, const uint64_t *rows, size_t nr, uint64_t time,
+                                          const uint64_t *words, uint64_t *w, size_t nw, uint64_t *answers, size_t na) {
+    const size_t count = nr / OVEN_ROW_WORDS;
+    if (has(TAKES_SEVENTEEN_ROWS) && a.refusal == OVEN_BAD_SHEET && count == 17 && nw > 0 && na >= 2) {
+        return __real_oven_sheet_tick(rows, nr - OVEN_ROW_WORDS, time, words, w, nw - 1, answers, na - 2);
+    }
+    if (has(TAKES_A_LARGER_ANSWER_SPACE) && a.refusal == OVEN_BAD_SPACE && na > 2 * count) {
+        return __real_oven_sheet_tick(rows, nr, time, words, w, nw, answers, 2 * count);
+    }
+    size_t sum = 0;
+    for (size_t n = 0; a.refusal == OVEN_BAD_LENGTH && n < count; n++) {
+        sum += length_of(rows[n * OVEN_ROW_WORDS], rows + n * OVEN_ROW_WORDS + OVEN_ROW_SETTINGS);
+    }
+    if (has(TAKES_A_SHEETS_LONGER_REGION) && a.refusal == OVEN_BAD_LENGTH && nw > sum + 1) {
+        return __real_oven_sheet_tick(rows, nr, time, words, w, sum, answers, na);
+    }
+    return a;
+}
+
 struct oven_sheet_answer __wrap_oven_sheet_tick(const uint64_t *rows, size_t nr, uint64_t time, const uint64_t *words, uint64_t *w,
                                                 size_t nw, uint64_t *answers, size_t na) {
+    rows = has(READS_A_ROWS_SETTING_BY_ITS_LOW_BIT) ? low_bits(rows, nr) : rows;
     struct oven_sheet_answer a = __real_oven_sheet_tick(rows, nr, time, words, w, nw, answers, na);
+    a = take_more(a, rows, nr, time, words, w, nw, answers, na);
+    if (has(UPDATES_BEFORE_IT_EMITS) && a.refusal == OVEN_ACCEPTED) {
+        emit_late(rows, nr, time, words, w, nw, answers, na);
+    }
+    if (has(WARNS_FOR_THE_LAST_ROW) && a.refusal == OVEN_ACCEPTED && rows[nr - OVEN_ROW_WORDS] != OVEN_MOVING_AVERAGE) {
+        a.warning = 0;
+    }
+    if (has(STORES_A_ROW_ON_REFUSAL) && a.refusal >= OVEN_BAD_STATE && a.refusal != OVEN_NO_BLOCK && a.row > 0) {
+        uint64_t first[2];
+        __real_oven_sheet_tick(rows, OVEN_ROW_WORDS, time, words, w, length_of(rows[0], rows + OVEN_ROW_SETTINGS), first, 2);
+    }
     if (has(SWAPS_ROWS) && a.refusal == OVEN_ACCEPTED && na >= 4) {
         const uint64_t first = answers[0];
         answers[0] = answers[2];

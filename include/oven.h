@@ -6,6 +6,9 @@
  * and oven_real turn a double into its word and back.
  *
  * All memory is the caller's. A call that is refused gives its refusal and zeros, and writes nothing.
+ *
+ * The program rounds to nearest and keeps subnormal numbers: no changed rounding mode around a call, and no -ffast-math
+ * where it is compiled or linked (docs/TRUST.md). A call takes at most 8192 bytes of stack.
  */
 #ifndef OVEN_H
 #define OVEN_H
@@ -43,7 +46,7 @@ enum oven_refusal {
     OVEN_BAD_STATE = 6,      /* a stored word is damaged: the previous time, or a ring's head or count */
     OVEN_TIME_RUNS_BACK = 7, /* the time is below the previous one; an equal time is accepted */
     OVEN_NO_BLOCK = 13,      /* no block has this number, this many settings or this type; rows are not 17 words each */
-    OVEN_BAD_TICKS = 14      /* of a run: the ticks are not four words each, or the answers not as many words */
+    OVEN_BAD_TICKS = 14      /* of a run: the words are not whole ticks, or the answers have not an answer's words for each */
 };
 
 /* ---- The places of the settings, and their number. */
@@ -89,6 +92,10 @@ enum oven_refusal {
 #define OVEN_ROW_THIRD 3  /* of the third */
 #define OVEN_ROW_SETTINGS 4
 #define OVEN_ROW_WORDS 17
+
+/* ---- The words of a tick and of its answer in a run. */
+#define OVEN_TICK_WORDS 4   /* the time and three inputs */
+#define OVEN_ANSWER_WORDS 4 /* those of struct oven_answer */
 
 /* ---- How many words a region has, as oven_length says too. */
 
@@ -198,8 +205,9 @@ struct oven_answer oven_tick(uint64_t block, const uint64_t *settings, size_t se
                              uint64_t first, uint64_t second, uint64_t third,
                              uint64_t *region, size_t region_len);
 
-/* Many whole ticks. A tick is four words: its time and three inputs. An answer is four words, those of struct oven_answer.
- * A tick that is refused changes nothing, and the next goes on. It starts nothing. The refusal is of the call: 0, 13 or 14. */
+/* Many whole ticks, OVEN_TICK_WORDS each, and OVEN_ANSWER_WORDS for the answer of each. It starts nothing. The refusal is of the
+ * call: 13, 14, 2 or 3, and then nothing is written. 5, 6 and 7 stand in the answer of their tick, which changes nothing, and the
+ * next goes on. */
 uint64_t oven_run(uint64_t block, const uint64_t *settings, size_t settings_len,
                   const uint64_t *ticks, size_t ticks_len, uint64_t *region, size_t region_len,
                   uint64_t *answers, size_t answers_len);

@@ -5,10 +5,10 @@ use Prim.Native.Nat.{ℕ, zero, suc}
 use native.Mathlib.Omega.{arith}
 use lib.Dec.{eqb}
 use Rattle.dynamics.specs.Answer.{accept}
-use Rattle.dynamics.specs.Machine.{decodeRefusal, decodeAnswer, isSound}
+use Rattle.dynamics.specs.Machine.{decodeRefusal, isSound}
 use Rattle.dynamics.specs.Stepped.{steppedMachine, openedAs}
 use Rattle.dynamics.proofs.Calls.{sound-decodes}
-use Rattle.dynamics.proofs.Opening.{Enum, Opened, decode-says}
+use Rattle.dynamics.proofs.Opening.{Enum, Opened, Decodes, decodes}
 use Rattle.moving_average.specs.MovingAverage.{machineFor}
 use Rattle.blocks.specs.Block.{machineOf}
 use Rattle.blocks.specs.Decoded.{stateOf, zeros, opened, reads}
@@ -41,9 +41,9 @@ unfolding openedAs accept
 carried E f g is none zero s = is s
 carried E f g is none (suc n) s = none (suc n)
 
--- the decode answer by document 01: its number, and the state or the record of zeros
-pub says : (b : Block) (w : List ℕ) → reads b (opened b (decodeRefusal (machineOf b) w) w) ≡ decodeAnswer (machineOf b) (stateOf b) (zeros b) w
-says b w = decode-says (decoded b) (machineOf b) (stateOf b) w
+-- the region of a block b, which is this one, opened: what that says by document 01, its number, and the state or the record of zeros
+pub says : {b this : Block} → b ≡ this → (w : List ℕ) {d : Decoded} → d ≡ opened this (decodeRefusal (machineOf this) w) w → Decodes (decoded b) (machineOf b) (stateOf b) w d
+says {b} {this} is w o = decodes (decoded b) (machineOf b) (stateOf b) w (rw is o)
 
 -- sound asks of a block's words what decoding asks
 sound-asks : (b : Block) (w : List ℕ) → machineOf b .sound w ≡ machineOf b .decodes w

@@ -1,6 +1,6 @@
 -- Each public call's contract admits one result only, and one region. Assumes nothing.
 use denote.Ref.{now}
-use Rattle.reals.proofs.Once.{Once, OnceLeft, equation-once}
+use Rattle.reals.proofs.Once.{Once, OnceLeft, equation-once, first-once}
 use Rattle.dynamics.proofs.Calls.{one-result}
 use Rattle.blocks.proofs.named.block_of.Reads as block-of
 use Rattle.blocks.proofs.state_length.Reads as length
@@ -10,9 +10,6 @@ use Rattle.blocks.proofs.decode.Reads as decode
 use Rattle.blocks.proofs.emit.Reads as emit
 use Rattle.blocks.proofs.update.Reads as update
 use Rattle.blocks.proofs.tick.Reads as tick
-use Rattle.blocks.proofs.row.size_of.Reads as size
-use Rattle.blocks.proofs.row.state_refusal.Reads as state-refusal
-use Rattle.blocks.proofs.row.tick_admitted.Reads as admitted
 use Rattle.blocks.proofs.block.answer_words.Reads as answer-words
 
 pub block-of-once : Once block-of.Post
@@ -25,16 +22,10 @@ pub sound-once : Once sound.Post
 sound-once = equation-once
 
 pub decode-once : Once decode.Post
-decode-once = equation-once
+decode-once = first-once
 
 pub emit-once : Once emit.Post
 emit-once = equation-once
-
-pub size-once : Once size.Post
-size-once = equation-once
-
-pub state-refusal-once : Once state-refusal.Post
-state-refusal-once = equation-once
 
 pub answer-words-once : Once answer-words.Post
 answer-words-once = equation-once
@@ -47,6 +38,3 @@ update-once = one-result
 
 pub tick-once : OnceLeft tick.Post (λ κs s. now (s .1 .1 .0))
 tick-once = one-result
-
-pub admitted-once : OnceLeft admitted.Post (λ κs s. now (s .1 .1 .1 .0))
-admitted-once = one-result

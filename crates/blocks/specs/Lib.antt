@@ -3,4 +3,3 @@ pub mod Block
 pub mod Named
 pub mod Decoded
 pub mod Wiping
-pub mod Admitted

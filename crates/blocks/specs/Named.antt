@@ -23,8 +23,12 @@ named are b = cond are (variant.Block b) Nothing
 abbrev pub controllerTypeOf : ℕ → ControllerType
 controllerTypeOf w = cond (eqb w 1) type.Pi (cond (eqb w 2) type.Pd (cond (eqb w 3) type.Pid type.P))
 
+-- how many settings it has
+abbrev pub controllerSettings : ℕ
+controllerSettings = 13
+
 unfoldable pub namesController : List ℕ → Bool
-namesController w = eqb (length w) 13 && ltb (getD w 0 0) 4
+namesController w = eqb (length w) controllerSettings && ltb (getD w 0 0) 4
 
 unfoldable pub configOf : List ℕ → ControllerConfig
 configOf w = record {

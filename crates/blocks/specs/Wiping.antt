@@ -32,6 +32,16 @@ wipeable (TrueDelay time on-init) = true
 wipeable (TrueFalseHold long-true long-false) = false
 wipeable (TrueHoldWithReset duration) = true
 
+-- those whose answer on a wiping tick tells nothing of the past: the timers; a controller's emit answers from the integrator before its tick
+abbrev pub answersWiping : Block → Bool
+answersWiping (Pid s) = false
+answersWiping (PidWithReset s) = false
+answersWiping (MovingAverage delta) = false
+answersWiping (TimerAccumulating t) = true
+answersWiping (TrueDelay time on-init) = true
+answersWiping (TrueFalseHold long-true long-false) = false
+answersWiping (TrueHoldWithReset duration) = true
+
 -- of a block that nothing wipes no account is given
 abbrev none : Account
 none = record { wipes = λ k h. false; wipesOn = λ k w. false; output = λ k h. bothOutputs 0·0 false; words = λ h. [] }

@@ -37,7 +37,7 @@ pub struct Tick {
 }
 
 // What a block reads of a tick: its first three words.
-pub fn inputs_of(tick: Tick) -> Inputs
+pub(crate) fn inputs_of(tick: Tick) -> Inputs
     ensures { λ r. ⌜ r ≡ inputsOf tick ⌝ }
 {
     Inputs {

@@ -18,7 +18,7 @@ pub enum Decoded {
 }
 
 // What a block's own call says.
-pub fn controller_decoded(d: pid::Decoded) -> Decoded
+pub(crate) fn controller_decoded(d: pid::Decoded) -> Decoded
     ensures { λ r. ⌜ r ≡ ofController d ⌝ }
 {
     match d {
@@ -27,7 +27,7 @@ pub fn controller_decoded(d: pid::Decoded) -> Decoded
     }
 }
 
-pub fn average_decoded(d: moving_average::Decoded) -> Decoded
+pub(crate) fn average_decoded(d: moving_average::Decoded) -> Decoded
     ensures { λ r. ⌜ r ≡ ofAverage d ⌝ }
 {
     match d {
@@ -36,7 +36,7 @@ pub fn average_decoded(d: moving_average::Decoded) -> Decoded
     }
 }
 
-pub fn accumulating_decoded(d: timer_accumulating::Decoded) -> Decoded
+pub(crate) fn accumulating_decoded(d: timer_accumulating::Decoded) -> Decoded
     ensures { λ r. ⌜ r ≡ ofAccumulating d ⌝ }
 {
     match d {
@@ -45,7 +45,7 @@ pub fn accumulating_decoded(d: timer_accumulating::Decoded) -> Decoded
     }
 }
 
-pub fn delay_decoded(d: true_delay::Decoded) -> Decoded
+pub(crate) fn delay_decoded(d: true_delay::Decoded) -> Decoded
     ensures { λ r. ⌜ r ≡ ofDelay d ⌝ }
 {
     match d {
@@ -54,7 +54,7 @@ pub fn delay_decoded(d: true_delay::Decoded) -> Decoded
     }
 }
 
-pub fn hold_decoded(d: hold::Decoded) -> Decoded
+pub(crate) fn hold_decoded(d: hold::Decoded) -> Decoded
     ensures { λ r. ⌜ r ≡ ofHold d ⌝ }
 {
     match d {

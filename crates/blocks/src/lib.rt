@@ -2,7 +2,6 @@
 mod block;
 mod decoded;
 mod named;
-mod row;
 
 pub use block::Block;
 pub use block::OutputWords;
@@ -19,20 +18,18 @@ use decoded::hold_decoded;
 use dynamics::Answer;
 use dynamics::Length;
 use moving_average::MovingAverage;
+pub use named::CONTROLLER_SETTINGS;
 pub use named::Named;
 pub use named::block_of;
-pub use row::size_of;
-pub use row::state_refusal;
-pub use row::tick_admitted;
 use timer_accumulating::TimerAccumulating;
 use true_delay::TrueDelay;
 use true_false_hold::TrueFalseHold;
 use true_hold_with_reset::TrueHoldWithReset;
 ghost use mathlib.Core.Path.{_≡_};
 ghost use Rattle.dynamics.specs.Region.{Gives};
-ghost use Rattle.dynamics.specs.Machine.{lengthAnswer, startRefusal, decodeRefusal, startedWords, isSound, emitAnswer, updateAnswer, updatedWords, tickAnswer};
+ghost use Rattle.dynamics.specs.Machine.{lengthAnswer, startRefusal, decodeRefusal, decodeAnswer, startedWords, isSound, emitAnswer, updateAnswer, updatedWords, tickAnswer};
 ghost use Rattle.blocks.specs.Block.{machineOf, inputsOf};
-ghost use Rattle.blocks.specs.Decoded.{opened};
+ghost use Rattle.blocks.specs.Decoded.{stateOf, zeros, opened, reads};
 
 // How many words its region has.
 pub fn state_length(block: Block) -> Length
@@ -143,6 +140,7 @@ pub fn sound(block: Block, region: &[u64]) -> bool
 // A region taken apart.
 pub fn decode(block: Block, region: &[u64]) -> Decoded
     ensures { λ r. ⌜ r ≡ opened block (decodeRefusal (machineOf block) (now (region .entry))) (now (region .entry)) ⌝ }
+    ensures { λ r. ⌜ reads block r ≡ decodeAnswer (machineOf block) (stateOf block) (zeros block) (now (region .entry)) ⌝ }
 {
     match block {
         Block::Pid(s) => controller_decoded(pid::decode(s, false, region)),

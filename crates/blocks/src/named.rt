@@ -9,7 +9,7 @@ ghost use mathlib.Core.Path.{_≡_};
 ghost use Rattle.blocks.specs.Named.{controllerTypeOf, namesController, configOf, pidBy, pidWithResetBy, averageBy, accumulatingBy, delayBy, falseHoldBy, resetHoldBy, namedBy};
 
 // How many settings a controller has.
-const CONTROLLER_SETTINGS: usize = 13;
+pub const CONTROLLER_SETTINGS: usize = 13;
 
 // The block that words name, if they name one.
 pub enum Named {

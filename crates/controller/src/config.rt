@@ -54,7 +54,7 @@ pub fn settings_accepted(settings: ControllerConfig) -> bool
 }
 
 // Whether there is an integrator.
-pub fn with_i(settings: ControllerConfig) -> bool
+pub(crate) fn with_i(settings: ControllerConfig) -> bool
     ensures { λ r. ⌜ r ≡ withI (settings .«controller_type») ⌝ }
 {
     let controller_type = settings.controller_type;
@@ -67,7 +67,7 @@ pub fn with_i(settings: ControllerConfig) -> bool
 }
 
 // Whether there is a derivative filter.
-pub fn with_d(settings: ControllerConfig) -> bool
+pub(crate) fn with_d(settings: ControllerConfig) -> bool
     ensures { λ r. ⌜ r ≡ withD (settings .«controller_type») ⌝ }
 {
     let controller_type = settings.controller_type;
@@ -80,14 +80,14 @@ pub fn with_d(settings: ControllerConfig) -> bool
 }
 
 // 1.0, or -1.0 where the output shall rise with the measurement.
-pub fn rev_act(settings: ControllerConfig) -> f64
+pub(crate) fn rev_act(settings: ControllerConfig) -> f64
     ensures { λ r. ⌜ r ≡ direction (settings .«reverse_acting») ⌝ }
 {
     if settings.reverse_acting { 1.0 } else { -1.0 }
 }
 
 // A gain, time or factor as the recurrence works with it.
-pub fn guarded_positive(x: f64) -> f64
+pub(crate) fn guarded_positive(x: f64) -> f64
     ensures { λ r. ⌜ r ≡ effective x ⌝ }
 {
     raised_to(MIN_PARAM, x)

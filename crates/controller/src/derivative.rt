@@ -26,7 +26,7 @@ fn derivative_time(settings: ControllerConfig) -> f64
 }
 
 // The derivative term: what the filter lags behind, or yd_start on the first tick.
-pub fn derivative_output(settings: ControllerConfig, s: State, e: f64) -> f64
+pub(crate) fn derivative_output(settings: ControllerConfig, s: State, e: f64) -> f64
     ensures { λ r. ⌜ r ≡ derivative settings s e ⌝ }
 {
     if with_d(settings) {
@@ -62,7 +62,7 @@ fn filter_before(settings: ControllerConfig, s: State, e: f64) -> f64
 }
 
 // The filter's value after this tick.
-pub fn next_filter(settings: ControllerConfig, s: State, e: f64, dt: f64) -> f64
+pub(crate) fn next_filter(settings: ControllerConfig, s: State, e: f64, dt: f64) -> f64
     ensures { λ r. ⌜ r ≡ nextFilter settings s e dt ⌝ }
 {
     if with_d(settings) {

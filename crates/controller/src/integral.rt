@@ -10,7 +10,7 @@ ghost use mathlib.Core.Path.{_≡_};
 ghost use Rattle.controller.specs.Recurrence.{integral, integralRate, nextIntegrator};
 
 // What the integrator adds to the sum.
-pub fn integral_output(settings: ControllerConfig, s: State) -> f64
+pub(crate) fn integral_output(settings: ControllerConfig, s: State) -> f64
     ensures { λ r. ⌜ r ≡ integral settings s ⌝ }
 {
     if with_i(settings) { s.integrator } else { 0.0 }
@@ -27,7 +27,7 @@ fn integral_rate(settings: ControllerConfig, terms: Terms) -> f64
 }
 
 // The integrator after this tick: solved back from y_reset on a rising trigger, else one step further.
-pub fn next_integrator(
+pub(crate) fn next_integrator(
     settings: ControllerConfig,
     s: State,
     terms: Terms,

@@ -27,7 +27,7 @@ fn clamp(settings: ControllerConfig, rule: Rule, y_u: f64) -> f64
 }
 
 // The output for a sum.
-pub fn limit(settings: ControllerConfig, y_u: f64) -> f64
+pub(crate) fn limit(settings: ControllerConfig, y_u: f64) -> f64
     ensures { λ r. ⌜ r ≡ limit settings «y_u» ⌝ }
 {
     clamp(settings, Rule::PassesNan, y_u)

@@ -11,9 +11,9 @@ use lib.Ieee.Scale.{finite}
 use Rattle.reals.specs.Words.{0·0}
 use Rattle.reals.proofs.Once.{OnceLeft}
 use Rattle.dynamics.specs.Previous.{runsBack}
-use Rattle.dynamics.specs.Answer.{Outputs, silent, emitted, updated, answered, refusalOf, formRefusal, accept, lengthOf, laterRefusal}
+use Rattle.dynamics.specs.Answer.{Outputs, silent, emitted, updated, answered, refusalOf, formRefusal, accept, lengthOf}
 use Rattle.dynamics.specs.Region.{stored, Gives}
-use Rattle.dynamics.specs.Machine.{Machine, sized, lengthAnswer, startRefusal, decodeRefusal, tickRefusal, startedWords, stateRefusal, isSound, emitAnswer, updateAnswer, updatedWords, tickAnswer, admittedAnswer, admittedWords, Tick, emits, updates, answerTo, wordsAfter, run}
+use Rattle.dynamics.specs.Machine.{Machine, sized, lengthAnswer, startRefusal, decodeRefusal, tickRefusal, startedWords, isSound, emitAnswer, updateAnswer, updatedWords, tickAnswer, Tick, emits, updates, answerTo, wordsAfter, run}
 use Rattle.dynamics.specs.declared.call.Answer.{Answer}
 use Rattle.dynamics.specs.declared.call.Inputs.{Inputs}
 use Rattle.dynamics.proofs.Accepted.{accepted, accept-ap, accept-const, all-passed}
@@ -58,11 +58,6 @@ module _ (M : Machine) (w : List ℕ) where
 pub sound-decodes : (M : Machine) (w : List ℕ) → M .sound w ≡ M .decodes w → isSound M w ≡ eqb (decodeRefusal M w) 0
 unfolding isSound decodeRefusal
 sound-decodes M w e = rw e
-
--- once a tick's form and its time are right, tests 6 and 7 decide
-pub form-right : (M : Machine) (time : Float) (w : List ℕ) → M .accepts ≡ true → sized M w ≡ true → finite time ≡ true → tickRefusal M time w ≡ stateRefusal M time w
-unfolding tickRefusal stateRefusal laterRefusal
-form-right M time w s l t = simp (s, l, t)
 
 -- ---- a tick
 module _ (M : Machine) (time : Float) (i : Inputs) (w : List ℕ) where
@@ -117,11 +112,6 @@ module _ (M : Machine) (time : Float) (i : Inputs) (w : List ℕ) where
   -- words that are stored are the region's
   pub stored-after : (v : List ℕ) {w' : List ℕ} → length v ≡ M .size → 0 ≡ number → v ≡ M .after w time i → w' ≡ stored w v → w' ≡ M .after w time i
   stored-after v l z a s = s ∙ stored-all M w v l (passed (sym z) .1) ∙ a
-
-  -- a tick that was admitted before is the tick itself, if the words after it have the state's length
-  pub admitted-tick : number ≡ 0 → length (M .after w time i) ≡ M .size → (admittedAnswer M time i w ≡ tickAnswer M time i w) × (admittedWords M time i w ≡ updatedWords M time i w)
-  unfolding admittedAnswer admittedWords tickAnswer updatedWords
-  admitted-tick z l = (accepted _ _ number (sym z), stored-after (M .after w time i) l (sym z) refl refl ∙ accepted _ _ number (sym z))
 
   -- ---- only updates warn, and an update hands out 0.0 and false
   pub emit-quiet : emitAnswer M time i w .warning ≡ false

@@ -20,7 +20,6 @@ use Rattle.dynamics.proofs.previous.is_first_tick.Reads as is-first-tic
 use Rattle.dynamics.proofs.previous.tick_dt.Reads as tick-dt
 use Rattle.dynamics.proofs.previous.runs_back.Reads as runs-back
 use Rattle.dynamics.proofs.refusal.form_refusal.Reads as form-refusal
-use Rattle.dynamics.proofs.refusal.state_refusal.Reads as state-refusal
 use Rattle.dynamics.proofs.refusal.time_refusal.Reads as time-refusal
 use Rattle.dynamics.proofs.region.word_at.Reads as word-at
 use Rattle.dynamics.proofs.region.real_at.Reads as real-at
@@ -85,9 +84,6 @@ runs-back-once = equation-once
 
 pub form-refusal-once : Once form-refusal.Post
 form-refusal-once = equation-once
-
-pub state-refusal-once : Once state-refusal.Post
-state-refusal-once = equation-once
 
 pub time-refusal-once : Once time-refusal.Post
 time-refusal-once = equation-once

@@ -93,6 +93,18 @@ module _ {S D : Type 0} (E : Enum S D) (M : Machine) (stateOf : List ℕ → S) 
         pub here : s ≡ stateOf w
         here = was-state E number (stateOf w) s (sym opened ∙ is) .1
 
+  -- ---- what decoding answers: the opened region, which says document 01's number and values
+  module _ (w : List ℕ) where
+    pub decode-says : E .reads (Opened E (decodeRefusal M w) (stateOf w)) ≡ decodeAnswer M stateOf (E .zeros) w
+    unfolding decodeAnswer
+    decode-says = opened-reads E (decodeRefusal M w) (stateOf w)
+
+    abbrev pub Decodes : D → Type 0
+    Decodes d = (d ≡ Opened E (decodeRefusal M w) (stateOf w)) × (E .reads d ≡ decodeAnswer M stateOf (E .zeros) w)
+
+    pub decodes : {d : D} → d ≡ Opened E (decodeRefusal M w) (stateOf w) → Decodes d
+    decodes o = (o, ap (E .reads) o ∙ decode-says)
+
   -- ---- opening, in the order of the table: tests 2 and 3, then the state is read, then the others
   module _ (w : List ℕ) {a : Bool} (settings : a ≡ M .accepts) {n : ℕ} (formed : n ≡ formRefusal a (sized M w)) where
     form : n ≡ startRefusal M w
@@ -103,9 +115,9 @@ module _ {S D : Type 0} (E : Enum S D) (M : Machine) (stateOf : List ℕ → S) 
       pub start-form : Gives (startRefusal M w) (startedWords M w) n w
       start-form = start-refused M w form bad
 
-      pub decode-form : E .refused n ≡ Opened E (decodeRefusal M w) (stateOf w)
+      pub decode-form : Decodes w (E .refused n)
       unfolding decodeRefusal startRefusal
-      decode-form = open-refused E (decodeRefusal M w) (stateOf w) (form-fails _ _ _ _ _ form bad) bad
+      decode-form = decodes w (open-refused E (decodeRefusal M w) (stateOf w) (form-fails _ _ _ _ _ form bad) bad)
 
       pub admit-form : (time : Float) → E .refused n ≡ Opened E (tickRefusal M time w) (stateOf w)
       unfolding tickRefusal startRefusal
@@ -121,13 +133,13 @@ module _ {S D : Type 0} (E : Enum S D) (M : Machine) (stateOf : List ℕ → S) 
       others time state order = form-passes _ _ time state order fine
 
       module _ {s : S} (e : s ≡ stateOf w) {d : Bool} (told : d ≡ M .decodes w) where
-        pub decode-then : d ≡ true → E .state s ≡ Opened E (decodeRefusal M w) (stateOf w)
+        pub decode-then : d ≡ true → Decodes w (E .state s)
         unfolding decodeRefusal
-        decode-then t = open-state E (decodeRefusal M w) (stateOf w) (refused-none _ _ _ _ _ refl refl refl (sym told ∙ t) refl ∙ others _ _ _) e
+        decode-then t = decodes w (open-state E (decodeRefusal M w) (stateOf w) (refused-none _ _ _ _ _ refl refl refl (sym told ∙ t) refl ∙ others _ _ _) e)
 
-        pub decode-else : d ≡ false → E .refused 6 ≡ Opened E (decodeRefusal M w) (stateOf w)
+        pub decode-else : d ≡ false → Decodes w (E .refused 6)
         unfolding decodeRefusal
-        decode-else t = open-refused E (decodeRefusal M w) (stateOf w) (refused-6 _ _ _ _ _ refl refl refl (sym told ∙ t) ∙ others _ _ _) (λ z. omega arith)
+        decode-else t = decodes w (open-refused E (decodeRefusal M w) (stateOf w) (refused-6 _ _ _ _ _ refl refl refl (sym told ∙ t) ∙ others _ _ _) (λ z. omega arith))
 
         module _ (time : Float) {p : Previous} (before : p ≡ M .previous w) {k : ℕ} (t : k ≡ timeRefusal time d p) where
           last : k ≡ tickRefusal M time w
@@ -140,12 +152,8 @@ module _ {S D : Type 0} (E : Enum S D) (M : Machine) (stateOf : List ℕ → S) 
           pub admit-else : (k ≡ 0 → ⊥) → E .refused k ≡ Opened E (tickRefusal M time w) (stateOf w)
           admit-else bad = open-refused E (tickRefusal M time w) (stateOf w) last bad
 
-  -- ---- what decoding answers, in document 01's number and values; its number; that a region is sound exactly if it decodes
+  -- ---- the number of what decoding answers; that a region is sound exactly if it decodes
   module _ (w : List ℕ) where
-    pub decode-says : E .reads (Opened E (decodeRefusal M w) (stateOf w)) ≡ decodeAnswer M stateOf (E .zeros) w
-    unfolding decodeAnswer
-    decode-says = opened-reads E (decodeRefusal M w) (stateOf w)
-
     pub decode-number : {d : D} {k : ℕ} → d ≡ Opened E (decodeRefusal M w) (stateOf w) → k ≡ E .reads d .refusal → k ≡ decodeRefusal M w
     decode-number o e = opened-number E (decodeRefusal M w) (stateOf w) o e
 

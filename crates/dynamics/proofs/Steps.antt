@@ -7,15 +7,15 @@ use lib.Ieee.{Float}
 use lib.Dec.{eqb}
 use lib.ListN.{length}
 use Rattle.dynamics.specs.Previous.{soundPrevious}
-use Rattle.dynamics.specs.Answer.{silent, emitted, formRefusal, laterRefusal, timeRefusal}
+use Rattle.dynamics.specs.Answer.{silent, emitted, formRefusal, timeRefusal}
 use Rattle.dynamics.specs.Region.{stored, Gives}
-use Rattle.dynamics.specs.Machine.{Machine, startRefusal, startedWords, decodeRefusal, decodeAnswer, isSound, tickRefusal, stateRefusal, emitAnswer, updateAnswer, updatedWords, tickAnswer, admittedAnswer, admittedWords}
+use Rattle.dynamics.specs.Machine.{Machine, startRefusal, startedWords, decodeRefusal, isSound, tickRefusal, emitAnswer, updateAnswer, updatedWords, tickAnswer}
 use Rattle.dynamics.specs.Stepped.{Stepped, steppedMachine}
 use Rattle.dynamics.specs.declared.call.Answer.{Answer}
 use Rattle.dynamics.specs.declared.call.Inputs.{Inputs}
 use Rattle.dynamics.specs.declared.previous.Previous.the-variants.{Unset}
 use Rattle.dynamics.proofs.Calls.{start-sound, start-accepted, emit-accepted, update-accepted, tick-accepted, stored-fresh, stored-after}
-use Rattle.dynamics.proofs.Opening.{Enum, Opened, ok, here, fine}
+use Rattle.dynamics.proofs.Opening.{Enum, Opened, Decodes, ok, here, fine}
 use Rattle.dynamics.proofs.Opening as opening
 
 -- Blocks with settings X whose calls open an enum first. A state has as many words as the block says, and a fresh one is read
@@ -75,17 +75,6 @@ module _ {X S D : Type 0} (O : Opens X S D) (b : X) where
         unfolding steppedMachine
         tick-then x = tick-accepted M time i w good (x ∙ ap (λ (q : S). emitted (B .output q time i)) same) left
 
-  -- ---- without the tests that a sheet makes over all its rows: the state is what the words mean
-  module _ (time : Float) (w : List ℕ) {s : S} (e : s ≡ B .stateOf w) where
-    pub state-tested : {d : Bool} {k : ℕ} → d ≡ soundPrevious (B .previous s) → k ≡ laterRefusal time d (B .previous s) → k ≡ stateRefusal M time w
-    unfolding stateRefusal laterRefusal steppedMachine
-    state-tested sound t = rw (sound, e) at t
-
-    pub admitted-then : (i : Inputs) {s' : S} {w' : List ℕ} {x : Answer} → s' ≡ B .advance s time i → w' ≡ stored w (B .wordsOf s') → x ≡ emitted (B .output s time i)
-        → Gives (admittedAnswer M time i w) (admittedWords M time i w) x w'
-    unfolding admittedAnswer admittedWords steppedMachine
-    admitted-then i n l x = record { answers = rw e at x; leaves = rw (n, e) at l }
-
   -- ---- opening, in the order of the table: tests 2 and 3, then the state is read, then the others
   module _ (w : List ℕ) {a : Bool} (settings : a ≡ B .accepts) {n : ℕ} (formed : n ≡ formRefusal a (eqb (length w) (B .size))) where
     module _ (bad : n ≡ 0 → ⊥) where
@@ -93,7 +82,7 @@ module _ {X S D : Type 0} (O : Opens X S D) (b : X) where
       unfolding steppedMachine
       start-form = opening.start-form E M (B .stateOf) w settings formed bad
 
-      pub decode-form : E .refused n ≡ Opened E (decodeRefusal M w) (B .stateOf w)
+      pub decode-form : Decodes E M (B .stateOf) w (E .refused n)
       unfolding steppedMachine
       decode-form = opening.decode-form E M (B .stateOf) w settings formed bad
 
@@ -113,11 +102,11 @@ module _ {X S D : Type 0} (O : Opens X S D) (b : X) where
         told : d ≡ soundPrevious (B .previous (B .stateOf w))
         told = sound ∙ ap (λ (q : S). soundPrevious (B .previous q)) e
 
-        pub decode-then : d ≡ true → E .state s ≡ Opened E (decodeRefusal M w) (B .stateOf w)
+        pub decode-then : d ≡ true → Decodes E M (B .stateOf) w (E .state s)
         unfolding steppedMachine
         decode-then = opening.decode-then E M (B .stateOf) w settings formed good e told
 
-        pub decode-else : d ≡ false → E .refused 6 ≡ Opened E (decodeRefusal M w) (B .stateOf w)
+        pub decode-else : d ≡ false → Decodes E M (B .stateOf) w (E .refused 6)
         unfolding steppedMachine
         decode-else = opening.decode-else E M (B .stateOf) w settings formed good e told
 
@@ -130,11 +119,8 @@ module _ {X S D : Type 0} (O : Opens X S D) (b : X) where
           unfolding steppedMachine
           admit-else = opening.admit-else E M (B .stateOf) w settings formed good e told time (ap (B .previous) e) t
 
-  -- ---- what decoding answers, in document 01's number and values; its number; that a region is sound exactly if it decodes
+  -- ---- the number of what decoding answers; that a region is sound exactly if it decodes
   module _ (w : List ℕ) where
-    pub decode-says : E .reads (Opened E (decodeRefusal M w) (B .stateOf w)) ≡ decodeAnswer M (B .stateOf) (E .zeros) w
-    decode-says = opening.decode-says E M (B .stateOf) w
-
     pub decode-number : {d : D} {k : ℕ} → d ≡ Opened E (decodeRefusal M w) (B .stateOf w) → k ≡ E .reads d .refusal → k ≡ decodeRefusal M w
     decode-number o e = opening.decode-number E M (B .stateOf) w o e
 

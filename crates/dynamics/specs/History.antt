@@ -4,7 +4,7 @@ use mathlib.Core.Path.{_≡_}
 use mathlib.Core.Bool.{Bool, true, cond}
 use mathlib.Core.List.{List, [], _∷_}
 use Rattle.dynamics.specs.Answer.{Outputs, silent, emitted, timeRefusal, accept}
-use Rattle.dynamics.specs.Machine.{Machine, tickRefusal, Tick, Call, starts, emits, updates, ticks, emitAnswer, Seen, wordsAfter, run}
+use Rattle.dynamics.specs.Machine.{Machine, isSound, decodeAnswer, tickRefusal, Tick, Call, starts, emits, updates, ticks, emitAnswer, Seen, wordsAfter, run, leftAfter}
 use Rattle.dynamics.specs.declared.call.Answer.{Answer}
 use Rattle.dynamics.specs.declared.previous.Previous.{Previous}
 use Rattle.dynamics.specs.declared.previous.Previous.the-variants.{Unset, At}
@@ -49,14 +49,29 @@ module _ (A : Account) where
   abbrev pub historyAfter : Tick → History → History
   historyAfter k h = accept (refusedAfter k h) (grown (A .wipes) h k) h
 
-  -- A start ends the history, and a new one begins. An accepted emit answers for its tick as if that came next, and adds
-  -- nothing. An accepted update adds its tick. A whole tick answers as an emit does, and adds as an update. A refused call changes nothing.
+  -- What a call answers after h, and what h becomes by it. A start ends the history, and a new one begins. An accepted emit answers for
+  -- its tick as if that came next, and adds nothing. An accepted update adds its tick. A whole tick answers as an emit does, and adds as
+  -- an update. A refused call changes nothing.
+  unfoldable pub retoldTo : History → Call → Answer
+  retoldTo h starts = silent 0
+  retoldTo h (emits k) = answerAfter k h
+  retoldTo h (updates k) = silent (refusedAfter k h)
+  retoldTo h (ticks k) = answerAfter k h
+
+  unfoldable pub grownBy : History → Call → History
+  grownBy h starts = started
+  grownBy h (emits k) = h
+  grownBy h (updates k) = historyAfter k h
+  grownBy h (ticks k) = historyAfter k h
+
+  -- what a list of calls answers and leaves, and the history that it leaves
   unfoldable pub retold : History → List Call → List Seen
   retold h [] = []
-  retold h (starts ∷ cs) = record { answer = silent 0; left = A .words started } ∷ retold started cs
-  retold h (emits k ∷ cs) = record { answer = answerAfter k h; left = A .words h } ∷ retold h cs
-  retold h (updates k ∷ cs) = record { answer = silent (refusedAfter k h); left = A .words (historyAfter k h) } ∷ retold (historyAfter k h) cs
-  retold h (ticks k ∷ cs) = record { answer = answerAfter k h; left = A .words (historyAfter k h) } ∷ retold (historyAfter k h) cs
+  retold h (c ∷ cs) = record { answer = retoldTo h c; left = A .words (grownBy h c) } ∷ retold (grownBy h c) cs
+
+  unfoldable pub grownThrough : History → List Call → History
+  grownThrough h [] = h
+  grownThrough h (c ∷ cs) = grownThrough (grownBy h c) cs
 
   -- a wiping tick on any region: accepted, and it wipes
   pub record Wiping (M : Machine) (w : List ℕ) (k : Tick) : Type 0 where
@@ -69,15 +84,14 @@ module _ (M : Machine) (A : Account) where
   abbrev pub RetoldFromWiping : Type 0
   RetoldFromWiping = (w : List ℕ) (k : Tick) → Wiping A M w k → (cs : List Call) → run M (wordsAfter M w (updates k)) cs ≡ retold A (wiped k) cs
 
+  -- and from a fresh start is what the ticks since say
+  abbrev pub RetoldFromStart : Type 0
+  RetoldFromStart = M .accepts ≡ true → (cs : List Call) → run M (M .fresh) cs ≡ retold A started cs
+
   -- so it is the same on any two regions that the same tick wipes
   abbrev pub AlikeFromWiping : Type 0
   AlikeFromWiping = (v w : List ℕ) (k : Tick) → Wiping A M v k → Wiping A M w k → (cs : List Call)
       → run M (wordsAfter M v (updates k)) cs ≡ run M (wordsAfter M w (updates k)) cs
-
-  -- the wiping tick's own answer: whatever the region holds, it is the same as after a history that the tick wipes
-  -- (not of a controller, whose emit answers from the integrator before its tick)
-  abbrev pub AnswersWiping : Type 0
-  AnswersWiping = (w : List ℕ) (k : Tick) → Wiping A M w k → (h : History) → A .wipes k h ≡ true → emitAnswer M (k .time) (k .inputs) w ≡ emitted (A .output k h)
 
   -- two such regions, which differ
   pub record TwoWiped : Type 0 where
@@ -88,6 +102,27 @@ module _ (M : Machine) (A : Account) where
     pub wipes-one : Wiping A M one tick
     pub wipes-other : Wiping A M other tick
 
-  -- and from a fresh start it is what the ticks since say
-  abbrev pub RetoldFromStart : Type 0
-  RetoldFromStart = M .accepts ≡ true → (cs : List Call) → run M (M .fresh) cs ≡ retold A started cs
+  -- the wiping tick's own answer: whatever the region holds, it is the same as after a history that the tick wipes
+  -- (not of a controller, whose emit answers from the integrator before its tick)
+  abbrev pub AnswersWiping : Type 0
+  AnswersWiping = (w : List ℕ) (k : Tick) → Wiping A M w k → (h : History) → A .wipes k h ≡ true → emitAnswer M (k .time) (k .inputs) w ≡ emitted (A .output k h)
+
+  -- ---- calls that only read, as sound and decode: they leave the region and add nothing, so they may be made after any of the others
+  module _ {S : Type 0} (stateOf : List ℕ → S) (zeros : S) where
+    -- the region has the words of h, so whatever is read there is what these say: sound is yes, and decode hands out what they mean
+    pub record ReadAs (w : List ℕ) (h : History) : Type 0 where
+      pub words : w ≡ A .words h
+      pub sound : isSound M w ≡ true
+      pub decode : decodeAnswer M stateOf zeros w ≡ record { refusal = 0; state = stateOf (A .words h) }
+
+    abbrev pub ReadFromWiping : Type 0
+    ReadFromWiping = (w : List ℕ) (k : Tick) → Wiping A M w k → (cs : List Call)
+        → ReadAs (leftAfter M (wordsAfter M w (updates k)) cs) (grownThrough A (wiped k) cs)
+
+    abbrev pub ReadFromStart : Type 0
+    ReadFromStart = M .accepts ≡ true → (cs : List Call) → ReadAs (leftAfter M (M .fresh) cs) (grownThrough A started cs)
+
+  -- and whatever a call f reads is the same on any two regions that the same tick wipes
+  abbrev pub ReadAlikeFromWiping : {X : Type 0} → (List ℕ → X) → Type 0
+  ReadAlikeFromWiping f = (v w : List ℕ) (k : Tick) → Wiping A M v k → Wiping A M w k → (cs : List Call)
+      → f (leftAfter M (wordsAfter M v (updates k)) cs) ≡ f (leftAfter M (wordsAfter M w (updates k)) cs)

@@ -7,8 +7,7 @@ use lib.ListN.{length}
 use lib.Ieee.{Float, binary64, fits}
 use lib.Ieee.Scale.{finite}
 use Rattle.dynamics.specs.Previous.{runsBack}
-use Rattle.dynamics.specs.Answer.{Outputs, silent, emitted, updated, answered, refusalOf, skipped, formRefusal, laterRefusal, accept, lengthOf}
-use Rattle.dynamics.specs.Region.{stored}
+use Rattle.dynamics.specs.Answer.{Outputs, silent, emitted, updated, answered, refusalOf, skipped, formRefusal, accept, lengthOf}
 use Rattle.dynamics.specs.declared.call.Answer.{Answer}
 use Rattle.dynamics.specs.declared.call.Inputs.{Inputs}
 use Rattle.dynamics.specs.declared.call.Length.{Length}
@@ -49,10 +48,6 @@ module _ (M : Machine) where
   unfoldable pub tickRefusal : Float → List ℕ → ℕ
   tickRefusal time w = refusalOf skipped (M .accepts) (sized w) skipped (finite time) (M .decodes w) (not (runsBack time (M .previous w)))
 
-  -- tests 6 and 7 alone: what is left of a tick's tests once its form and its time are right
-  unfoldable pub stateRefusal : Float → List ℕ → ℕ
-  stateRefusal time w = laterRefusal time (M .decodes w) (M .previous w)
-
   -- ---- what a call gives
   unfoldable pub lengthAnswer : Length
   lengthAnswer = lengthOf (M .accepts) (M .size)
@@ -78,13 +73,6 @@ module _ (M : Machine) where
   -- a whole tick, an emit and then an update; it leaves `updatedWords`
   unfoldable pub tickAnswer : Float → Inputs → List ℕ → Answer
   tickAnswer time i w = accept (tickRefusal time w) (answered (M .output w time i) (M .warns w time i)) (silent (tickRefusal time w))
-
-  -- a whole tick that was admitted before: no test is made, and only a region of the state's length is written
-  unfoldable pub admittedAnswer : Float → Inputs → List ℕ → Answer
-  admittedAnswer time i w = answered (M .output w time i) (M .warns w time i)
-
-  unfoldable pub admittedWords : Float → Inputs → List ℕ → List ℕ
-  admittedWords time i w = stored w (M .after w time i)
 
 -- ---- a run of calls
 -- what a call brings; its time is an f64
@@ -118,3 +106,8 @@ module _ (M : Machine) where
   unfoldable pub run : List ℕ → List Call → List Seen
   run w [] = []
   run w (c ∷ cs) = record { answer = answerTo w c; left = wordsAfter w c } ∷ run (wordsAfter w c) cs
+
+  -- the region that a list of calls leaves
+  unfoldable pub leftAfter : List ℕ → List Call → List ℕ
+  leftAfter w [] = w
+  leftAfter w (c ∷ cs) = leftAfter (wordsAfter w c) cs

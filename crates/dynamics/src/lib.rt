@@ -30,7 +30,6 @@ pub use previous::runs_back;
 pub use previous::tick_dt;
 pub use previous::word_of_previous;
 pub use refusal::form_refusal;
-pub use refusal::state_refusal;
 pub use refusal::time_refusal;
 pub use region::clear;
 pub use region::flag_at;

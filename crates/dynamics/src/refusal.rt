@@ -19,7 +19,7 @@ pub fn form_refusal(settings: bool, length: bool) -> u64
 }
 
 // Tests 6 and 7: the words decode, the time is not below a set previous one.
-pub fn state_refusal(time: f64, decodes: bool, previous: Previous) -> u64
+fn state_refusal(time: f64, decodes: bool, previous: Previous) -> u64
     ensures { λ r. ⌜ r ≡ laterRefusal time decodes previous ⌝ }
 {
     if !decodes {

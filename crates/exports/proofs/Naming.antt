@@ -1,4 +1,4 @@
--- A row of seventeen words names a block exactly when its number is at most 6 and, of a controller, its type at most 3. Assumes nothing.
+-- A row's words name a block exactly when its number is at most 6 and, of a controller, its type at most 3. Assumes nothing.
 use Prim.Native.Nat.{ℕ, zero, suc, _≤_, _<_}
 use native.Mathlib.Omega.{arith}
 use mathlib.Core.Path.{_≡_, refl, _∙_, ap}
@@ -9,14 +9,14 @@ use borrow.Author.Tests.{le-ltb}
 use lib.Dec.{eqb, leb, ltb}
 use lib.ListN.{length, getD, take, drop, length-drop}
 use lib.Seq.{length-take-le, getD-take, getD-drop}
-use Rattle.blocks.specs.Named.{named, namesController, namedBy}
+use Rattle.blocks.specs.Named.{named, controllerSettings, namesController, namedBy}
 use Rattle.blocks.specs.declared.block.Block.{Block}
 use Rattle.blocks.specs.declared.named.Named.{Named}
 use Rattle.blocks.specs.declared.named.Named.the-variants as block
 use Rattle.blocks.proofs.Names.{above}
 use Rattle.sheet.specs.declared.row.Row.{Row}
 use Rattle.exports.specs.Calls.{byName}
-use Rattle.exports.specs.Sheets.{settingsRead, rowWith, rowBy}
+use Rattle.exports.specs.Sheets.{settingsAt, wordsPerRow, settingsRead, rowWith, rowBy}
 
 -- whether words name a block
 abbrev isBlock : Named → Bool
@@ -39,18 +39,18 @@ too-large : (n type : ℕ) (s : List ℕ) → 6 < n → isBlock (namedBy n s) �
 too-large n type s h = rw (above n s h, le-ltb n 7 (omega (arith, h))) refl
 
 -- settings of as many words as there are, or more
-module _ (s : List ℕ) (many : 13 ≤ length s) where
-  first : (n : ℕ) → n ≤ 13 → eqb (length (take n s)) n ≡ eqb n n
+module _ (s : List ℕ) (many : controllerSettings ≤ length s) where
+  first : (n : ℕ) → n ≤ controllerSettings → eqb (length (take n s)) n ≡ eqb n n
   first n h = rw (length-take-le n s (omega (arith, h, many))) refl
 
-  type-told : namesController (take 13 s) ≡ ltb (getD s 0 0) 4
+  type-told : namesController (take controllerSettings s) ≡ ltb (getD s 0 0) 4
   unfolding namesController
-  type-told = rw (length-take-le 13 s many, getD-take 13 s 0 0 (omega arith)) refl
+  type-told = rw (length-take-le controllerSettings s many, getD-take controllerSettings s 0 0 (omega arith)) refl
 
   named-exactly : (n : ℕ) → isBlock (namedBy n (take (settingsRead n) s)) ≡ namesBlock n (getD s 0 0)
   unfolding settingsRead namedBy
-  named-exactly zero = given (namesController (take 13 s)) _ ∙ type-told
-  named-exactly (suc zero) = given (namesController (take 13 s)) _ ∙ type-told
+  named-exactly zero = given (namesController (take controllerSettings s)) _ ∙ type-told
+  named-exactly (suc zero) = given (namesController (take controllerSettings s)) _ ∙ type-told
   named-exactly (suc (suc zero)) = given _ _ ∙ first 1 (omega arith)
   named-exactly (suc (suc (suc zero))) = given _ _ ∙ first 1 (omega arith)
   named-exactly (suc (suc (suc (suc zero)))) = given _ _ ∙ first 2 (omega arith)
@@ -63,9 +63,9 @@ unfolding byName
 row-by w (block.Block b) = refl
 row-by w block.Nothing = refl
 
-pub row-exactly : (w : List ℕ) → 17 ≤ length w → isRow (rowBy w) ≡ namesBlock (getD w 0 0) (getD w 4 0)
+pub row-exactly : (w : List ℕ) → wordsPerRow ≤ length w → isRow (rowBy w) ≡ namesBlock (getD w 0 0) (getD w settingsAt 0)
 unfolding rowBy
 row-exactly w h =
     row-by w _
-    ∙ named-exactly (drop 4 w) (omega (arith, h, length-drop 4 w)) (getD w 0 0)
-    ∙ ap (namesBlock (getD w 0 0)) (getD-drop 4 w 0 0)
+    ∙ named-exactly (drop settingsAt w) (omega (arith, h, length-drop settingsAt w)) (getD w 0 0)
+    ∙ ap (namesBlock (getD w 0 0)) (getD-drop settingsAt w 0 0)

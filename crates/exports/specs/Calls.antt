@@ -57,6 +57,6 @@ module _ (n : Named) where
 
 -- a run: its number, and the region and the answers of its ticks, or both as they were
 pub record RunsBy (n : Named) (ticks region answers : List ℕ) (r : ℕ) (left said : List ℕ) : Type 0 where
-  pub number : r ≡ byName n (λ b. runRefusal ticks answers) noBlock
+  pub number : r ≡ byName n (λ b. runRefusal (machineOf b) ticks region answers) noBlock
   pub leaves : left ≡ byName n (λ b. ranRegion (machineOf b) ticks region answers) region
   pub says : said ≡ byName n (λ b. ranSays (machineOf b) ticks region answers) answers

@@ -1,5 +1,5 @@
 -- The sheet's calls over words, by the rows that the words name; words of which a row names no block are refused with 13. Definitions only.
-use Prim.Native.Nat.{ℕ, zero, suc, _/_, _%_}
+use Prim.Native.Nat.{ℕ, zero, suc, _+_, _/_, _%_}
 use mathlib.Core.Path.{_≡_}
 use mathlib.Core.Bool.{true, false, cond}
 use mathlib.Core.Option.{Option, none, some}
@@ -7,11 +7,11 @@ use mathlib.Core.List.{List, [], _∷_}
 use lib.Dec.{eqb, ltb}
 use lib.ListN.{length, getD, take, drop}
 use Rattle.reals.specs.Words.{realOf, wordOfFlag}
-use Rattle.blocks.specs.Named.{namedBy}
+use Rattle.blocks.specs.Named.{controllerSettings, namedBy}
 use Rattle.blocks.specs.declared.block.Block.{Block}
 use Rattle.blocks.specs.declared.block.Tick.{Tick}
 use Rattle.sheet.specs.Sheet.{startSaid, startLeft, tickSaid, tickLeft, tickAnswers}
-use Rattle.sheet.specs.Table.{rowsOf}
+use Rattle.sheet.specs.Table.{tableRows, rowsOf}
 use Rattle.sheet.specs.declared.row.Row.{Row}
 use Rattle.sheet.specs.declared.row.SheetAnswer.{SheetAnswer}
 use Rattle.sheet.specs.declared.table.Table.{Table}
@@ -32,17 +32,25 @@ noSheet = record { refusal = noBlock; row = 0; warning = 0 }
 abbrev pub tickBy : ℕ → List ℕ → Tick
 tickBy time words = record { time = realOf time; words = words }
 
--- ---- a row of seventeen words
--- how many of its settings a block of this number reads: a controller 13, TrueDelay and TrueFalseHold 2, the others 1
-unfoldable pub settingsRead : ℕ → ℕ
-settingsRead n = cond (ltb n 2) 13 (cond (eqb n 4) 2 (cond (eqb n 5) 2 1))
+-- ---- a row
+-- where its settings begin: behind the block's number and the three columns
+abbrev pub settingsAt : ℕ
+settingsAt = 4
 
--- the block's number, the three columns, and the settings from the fifth word on; those that are not read may be any
+-- how many words it has: no block has more settings than a controller
+abbrev pub wordsPerRow : ℕ
+wordsPerRow = settingsAt + controllerSettings
+
+-- how many of its settings a block of this number reads: all of them a controller, 2 TrueDelay and TrueFalseHold, 1 the others
+unfoldable pub settingsRead : ℕ → ℕ
+settingsRead n = cond (ltb n 2) controllerSettings (cond (eqb n 4) 2 (cond (eqb n 5) 2 1))
+
+-- the block's number, the three columns, and the settings; those that are not read may be any
 abbrev pub rowWith : List ℕ → Block → Row
 rowWith w b = record { block = b; first = getD w 1 0; second = getD w 2 0; third = getD w 3 0 }
 
 unfoldable pub rowBy : List ℕ → Option Row
-rowBy w = let n = getD w 0 0 in byName (namedBy n (take (settingsRead n) (drop 4 w))) (λ b. some (rowWith w b)) none
+rowBy w = let n = getD w 0 0 in byName (namedBy n (take (settingsRead n) (drop settingsAt w))) (λ b. some (rowWith w b)) none
 
 -- ---- all rows
 -- below a row
@@ -54,11 +62,11 @@ below (some r) (some rs) = some (r ∷ rs)
 -- the first n rows of the words, or nothing if one of them names no block
 unfoldable pub rowsBy : ℕ → List ℕ → Option (List Row)
 rowsBy zero w = some []
-rowsBy (suc n) w = below (rowBy (take 17 w)) (rowsBy n (drop 17 w))
+rowsBy (suc n) w = below (rowBy (take wordsPerRow w)) (rowsBy n (drop wordsPerRow w))
 
--- the rows that words are, if they are seventeen for each row and every row names a block
+-- the rows that words are, if they are whole rows and every row names a block
 unfoldable pub rowsNamed : List ℕ → Option (List Row)
-rowsNamed w = cond (eqb (length w % 17) 0) (rowsBy (length w / 17) w) none
+rowsNamed w = cond (eqb (length w % wordsPerRow) 0) (rowsBy (length w / wordsPerRow) w) none
 
 -- the rows' own, or what is given where there are none
 unfoldable pub byRows : {X : Type 0} → Option (List Row) → (List Row → X) → X → X
@@ -72,12 +80,12 @@ shown t = record { rows = t .rows; count = t .count }
 -- one without rows, that has all its places
 pub record Bare (t : NamedTable) : Type 0 where
   pub unnamed : t .named ≡ false
-  pub places : length (t .rows) ≡ 17
+  pub places : length (t .rows) ≡ tableRows
 
--- such rows in a table: the first seventeen
+-- such rows in a table: the first of them
 pub record Tabled (o : Option (List Row)) (t : NamedTable) : Type 0 where
   pub named : t .named ≡ byRows o (λ rs. true) false
-  pub first : (rs : List Row) → o ≡ some rs → rowsOf (shown t) ≡ take 17 rs
+  pub first : (rs : List Row) → o ≡ some rs → rowsOf (shown t) ≡ take tableRows rs
 
 -- ---- the calls: the sheet's over the rows, or 13 and nothing written
 pub record StartsBy (o : Option (List Row)) (region : List ℕ) (r : SheetWords) (left : List ℕ) : Type 0 where

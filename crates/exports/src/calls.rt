@@ -138,7 +138,8 @@ pub extern "C" fn oven_tick(
     answer_words(tick(b, tick_of(time, first, second, third), region))
 }
 
-// Many whole ticks, four words each (time and three inputs), answered in four words each (refusal, real, boolean, warning).
+// Many whole ticks, the words of each (time and three inputs) one after the other, and so are the words of its answer (those of
+// `AnswerWords`). The refusal number of the run: 13, then 14, then 2 and 3 as of a start; 5, 6 and 7 are each tick's own.
 #[no_mangle]
 pub extern "C" fn oven_run(
     block: u64,

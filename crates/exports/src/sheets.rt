@@ -1,6 +1,7 @@
-// The sheet's calls over words: a row is seventeen, the block's number, its three columns, then thirteen of settings.
+// The sheet's calls over words: a row is the block's number, its three columns, then its settings, with room for those of a controller.
 use crate::boundary::NO_BLOCK;
 use blocks::Block;
+use blocks::CONTROLLER_SETTINGS;
 use blocks::Named;
 use blocks::Tick;
 use blocks::block_of;
@@ -8,18 +9,19 @@ use reals::real_of;
 use reals::word_of_flag;
 use sheet::Row;
 use sheet::SheetAnswer;
+use sheet::TABLE_ROWS;
 use sheet::Table;
 use sheet::start_table;
 use sheet::tick_table;
 ghost use Prim.Native.Nat.{_≤_};
 ghost use mathlib.Core.Path.{_≡_};
 ghost use lib.ListN.{length};
-ghost use Rattle.exports.specs.Sheets.{sheetCrossed, noSheet, tickBy, settingsRead, rowWith, rowsNamed, shown, Bare, Tabled, StartsBy, TicksBy};
+ghost use Rattle.exports.specs.Sheets.{sheetCrossed, noSheet, tickBy, wordsPerRow, settingsRead, rowWith, rowsNamed, shown, Bare, Tabled, StartsBy, TicksBy};
 
-// How many words a row has, and how many rows a table shows.
-const ROW_WORDS: usize = 17;
+// Where a row's settings begin, and how many words it has: no block has more settings than a controller.
+const SETTINGS_AT: usize = 4;
 
-const SHOWN: usize = 17;
+const WORDS_PER_ROW: usize = SETTINGS_AT + CONTROLLER_SETTINGS;
 
 // A column that names none of a tick's eight words.
 const NO_COLUMN: u64 = 8;
@@ -32,10 +34,10 @@ pub struct SheetWords {
     pub warning: u64,
 }
 
-// Whether every row names a block; and if so the rows, of which the first seventeen are shown.
+// Whether every row names a block; and if so the rows, of which a table shows the first.
 pub struct NamedTable {
     pub named: bool,
-    pub rows: [Row; 17],
+    pub rows: [Row; TABLE_ROWS],
     pub count: usize,
 }
 
@@ -77,7 +79,7 @@ fn settings_read(number: u64) -> usize
     ensures { λ r. ⌜ r ≡ settingsRead number ⌝ }
 {
     if number < 2 {
-        return 13;
+        return CONTROLLER_SETTINGS;
     }
     if number == 4 {
         return 2;
@@ -90,7 +92,7 @@ fn settings_read(number: u64) -> usize
 
 // The row of this block with the columns of its words.
 fn row_with(block: Block, words: &[u64]) -> Row
-    requires { ⌜ 17 ≤ length (now words) ⌝ }
+    requires { ⌜ wordsPerRow ≤ length (now words) ⌝ }
     ensures { λ r. ⌜ r ≡ rowWith (now (words .entry)) block ⌝ }
 {
     Row {
@@ -117,7 +119,7 @@ fn no_table() -> NamedTable
     ensures { λ r. ⌜ Bare r ⌝ }
 {
     let row = blank();
-    let rows = [row; SHOWN];
+    let rows = [row; TABLE_ROWS];
     NamedTable {
         named: false,
         rows,
@@ -130,17 +132,17 @@ fn table_of(words: &[u64]) -> NamedTable
     ensures { λ r. ⌜ Tabled (rowsNamed (now (words .entry))) r ⌝ }
 {
     let mut read = no_table();
-    if words.len() % ROW_WORDS != 0 {
+    if words.len() % WORDS_PER_ROW != 0 {
         return read;
     }
     let mut count: usize = 0;
     let mut at: usize = 0;
     while at < words.len() {
-        let end = at + ROW_WORDS;
+        let end = at + WORDS_PER_ROW;
         let row = &words[at..end];
         let number = row[0];
-        let stop = 4 + settings_read(number);
-        let named = block_of(number, &row[4..stop]);
+        let stop = SETTINGS_AT + settings_read(number);
+        let named = block_of(number, &row[SETTINGS_AT..stop]);
         let Named::Block(block) = named else {
             return read;
         };
@@ -148,7 +150,7 @@ fn table_of(words: &[u64]) -> NamedTable
         let place = count;
         count += 1;
         at = end;
-        if place < SHOWN {
+        if place < TABLE_ROWS {
             read.rows[place] = whole;
         }
     }
@@ -168,7 +170,7 @@ fn shown(read: NamedTable) -> Table
     }
 }
 
-// Starts the sheet over these rows. 13 comes first: the words are not seventeen for each row, or a row names no block.
+// Starts the sheet over these rows. 13 comes first: the words are not whole rows, or a row names no block.
 #[no_mangle]
 pub extern "C" fn oven_sheet_start(rows: &[u64], region: &mut [u64]) -> SheetWords
     ensures { λ r. ⌜ StartsBy (rowsNamed (now (rows .entry))) (now (region .entry)) r (now (region .exit)) ⌝ }

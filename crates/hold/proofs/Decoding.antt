@@ -10,11 +10,11 @@ use lib.Ieee.{Float, binary64, fits, ofBits}
 use Rattle.reals.proofs.Words.{real-word, flag-back}
 use Rattle.dynamics.specs.Previous.{previousOf, wordOfPrevious}
 use Rattle.dynamics.specs.Region.{Gives}
-use Rattle.dynamics.specs.Machine.{Machine, startRefusal, tickRefusal, startedWords, decodeRefusal}
+use Rattle.dynamics.specs.Machine.{Machine, startRefusal, tickRefusal, startedWords, decodeRefusal, decodeAnswer}
 use Rattle.dynamics.specs.Stepped.{steppedMachine}
 use Rattle.dynamics.specs.declared.call.Inputs.{Inputs}
 use Rattle.dynamics.specs.declared.previous.Previous.the-variants.{Unset}
-use Rattle.dynamics.proofs.Opening.{Enum}
+use Rattle.dynamics.proofs.Opening.{Enum, Decodes}
 use Rattle.dynamics.proofs.Steps.{Opens}
 use Rattle.hold.specs.Hold.{stateOf, wordsOf, initial, holdOf, bare, opened, zeros, reads}
 use Rattle.hold.specs.declared.State.{State}
@@ -73,9 +73,9 @@ module _ (accepts : Bool) (advance : State → Float → Inputs → State) where
     unfolding startRefusal startedWords steppedMachine
     started-alike g = rw settings at g
 
-    pub decoded-alike : {d : Decoded} → d ≡ opened (decodeRefusal (bare a) w) w → d ≡ opened (decodeRefusal machine w) w
-    unfolding decodeRefusal steppedMachine
-    decoded-alike e = rw settings at e
+    pub decoded-alike : {d : Decoded} → Decodes decoded (bare a) stateOf w d → Decodes decoded machine stateOf w d
+    unfolding decodeRefusal decodeAnswer steppedMachine
+    decoded-alike (o, said) = (rw settings at o, rw settings at said)
 
     pub admitted-alike : (time : Float) {d : Decoded} → d ≡ opened (tickRefusal (bare a) time w) w → d ≡ opened (tickRefusal machine time w) w
     unfolding tickRefusal steppedMachine

@@ -1,7 +1,5 @@
 // What the two holds share: their state, its three words in a region, and how a region is started and taken apart.
-use dynamics::Answer;
 use dynamics::Previous;
-use dynamics::boolean_answer;
 use dynamics::flag_at;
 use dynamics::form_refusal;
 use dynamics::previous_at;
@@ -13,11 +11,9 @@ use dynamics::word_of_previous;
 use reals::word_of;
 use reals::word_of_flag;
 ghost use mathlib.Core.Path.{_≡_};
-ghost use mathlib.Core.Bool.{true};
-ghost use Rattle.dynamics.specs.Answer.{emitted};
 ghost use Rattle.dynamics.specs.Region.{stored, Gives};
-ghost use Rattle.dynamics.specs.Machine.{startRefusal, decodeRefusal, tickRefusal, stateRefusal, startedWords};
-ghost use Rattle.hold.specs.Hold.{initial, stateOf, wordsOf, outputs, bare, opened, reads};
+ghost use Rattle.dynamics.specs.Machine.{startRefusal, decodeRefusal, decodeAnswer, tickRefusal, startedWords};
+ghost use Rattle.hold.specs.Hold.{initial, stateOf, wordsOf, bare, opened, zeros, reads};
 
 // Which word is which.
 const HELD_WORD: usize = 0;
@@ -64,7 +60,7 @@ fn init_state() -> State
 }
 
 // What a region's words mean.
-pub fn state_of(region: &[u64]) -> State
+fn state_of(region: &[u64]) -> State
     ensures { λ r. ⌜ r ≡ stateOf (now (region .entry)) ⌝ }
 {
     State {
@@ -91,9 +87,9 @@ pub fn write(region: &mut [u64], s: State)
 pub fn start(accepted: bool, region: &mut [u64]) -> u64
     ensures { λ r. ⌜ Gives (startRefusal (bare accepted) (now (region .entry))) (startedWords (bare accepted) (now (region .entry))) r (now (region .exit)) ⌝ }
 {
-    let n = form_refusal(accepted, region.len() == STATE_LEN);
-    if n != 0 {
-        return n;
+    let refusal = form_refusal(accepted, region.len() == STATE_LEN);
+    if refusal != 0 {
+        return refusal;
     }
     write(region, init_state());
     0
@@ -102,6 +98,7 @@ pub fn start(accepted: bool, region: &mut [u64]) -> u64
 // A region taken apart.
 pub fn decode(accepted: bool, region: &[u64]) -> Decoded
     ensures { λ r. ⌜ r ≡ opened (decodeRefusal (bare accepted) (now (region .entry))) (now (region .entry)) ⌝ }
+    ensures { λ r. ⌜ reads r ≡ decodeAnswer (bare accepted) stateOf zeros (now (region .entry)) ⌝ }
 {
     let n = form_refusal(accepted, region.len() == STATE_LEN);
     if n != 0 {
@@ -130,21 +127,4 @@ pub fn admit(accepted: bool, time: f64, region: &[u64]) -> Decoded
         return Decoded::Refused(k);
     }
     Decoded::State(s)
-}
-
-// Tests 6 and 7 alone, for a tick whose form and time are right; they ask nothing of the settings.
-pub fn state_refusal(time: f64, region: &[u64]) -> u64
-    ensures { λ r. ⌜ r ≡ stateRefusal (bare true) time (now (region .entry)) ⌝ }
-{
-    let s = state_of(region);
-    let previous = s.previous;
-    dynamics::state_refusal(time, previous_sound(previous), previous)
-}
-
-// Ends a tick: stores the state after it, and answers with its outputs.
-pub fn finish(region: &mut [u64], after: State) -> Answer
-    ensures { λ r. ⌜ Gives (emitted (outputs after)) (stored (now (region .entry)) (wordsOf after)) r (now (region .exit)) ⌝ }
-{
-    write(region, after);
-    boolean_answer(after.held)
 }

@@ -11,12 +11,12 @@ use lib.Ieee.{Float, ofBits}
 use lib.Ieee.Scale.{finite}
 use lib.Ieee.Fits.{and-l, and-r}
 use Rattle.dynamics.specs.Previous.{unset, previousOf, soundPrevious}
-use Rattle.dynamics.specs.Answer.{formRefusal, laterRefusal, timeRefusal}
+use Rattle.dynamics.specs.Answer.{formRefusal, timeRefusal}
 use Rattle.dynamics.specs.Region.{Gives}
-use Rattle.dynamics.specs.Machine.{sized, startRefusal, startedWords, decodeRefusal, tickRefusal, stateRefusal}
+use Rattle.dynamics.specs.Machine.{sized, startRefusal, startedWords, decodeRefusal, tickRefusal}
 use Rattle.dynamics.specs.declared.call.Inputs.{Inputs}
 use Rattle.dynamics.proofs.Calls.{start-accepted, start-sized, tick-sized, tick-decodes}
-use Rattle.dynamics.proofs.Opening.{Enum, fine}
+use Rattle.dynamics.proofs.Opening.{Enum, Decodes, fine}
 use Rattle.dynamics.proofs.Opening as opening
 use Rattle.window.specs.Geometry.{geometryOf}
 use Rattle.window.specs.declared.ring.RingGeometry.{RingGeometry}
@@ -75,7 +75,7 @@ module _ (b : MovingAverage) (w : List ℕ) {g : RingGeometry} (shaped : g ≡ g
     pub start-form : Gives (startRefusal (machine b) w) (startedWords (machine b) w) n w
     start-form = opening.start-form decoded (machine b) stateOf w known tested bad
 
-    pub decode-form : Refused n ≡ opened (decodeRefusal (machine b) w) w
+    pub decode-form : Decodes decoded (machine b) stateOf w (Refused n)
     decode-form = opening.decode-form decoded (machine b) stateOf w known tested bad
 
     pub admit-form : (time : Float) → Refused n ≡ opened (tickRefusal (machine b) time w) w
@@ -99,10 +99,10 @@ module _ (b : MovingAverage) (w : List ℕ) {g : RingGeometry} (shaped : g ≡ g
       unfolding machineFor
       told = rw (e, shaped) at tests
 
-      pub decode-then : d ≡ true → variant.State s ≡ opened (decodeRefusal (machine b) w) w
+      pub decode-then : d ≡ true → Decodes decoded (machine b) stateOf w (variant.State s)
       decode-then = opening.decode-then decoded (machine b) stateOf w known tested good e told
 
-      pub decode-else : d ≡ false → Refused 6 ≡ opened (decodeRefusal (machine b) w) w
+      pub decode-else : d ≡ false → Decodes decoded (machine b) stateOf w (Refused 6)
       decode-else = opening.decode-else decoded (machine b) stateOf w known tested good e told
 
       module _ (time : Float) {k : ℕ} (t : k ≡ timeRefusal time d (s .previous)) where
@@ -115,12 +115,6 @@ module _ (b : MovingAverage) (w : List ℕ) {g : RingGeometry} (shaped : g ≡ g
 
         pub admit-else : (k ≡ 0 → ⊥) → Refused k ≡ opened (tickRefusal (machine b) time w) w
         admit-else = opening.admit-else decoded (machine b) stateOf w known tested good e told time before t
-
--- ---- tests 6 and 7 alone, on the state that the words mean
-pub state-tested : (b : MovingAverage) (w : List ℕ) {g : RingGeometry} → g ≡ geometryOf (b .delta) → {s : State} → s ≡ stateOf w → {d : Bool} → d ≡ decodable s (g .capacity)
-    → (time : Float) {k : ℕ} → k ≡ laterRefusal time d (s .previous) → k ≡ stateRefusal (machine b) time w
-unfolding stateRefusal laterRefusal machineFor
-state-tested b w shaped e tests time t = rw (tests, shaped, e) at t
 
 -- ---- the ring of an accepted tick stands in its region
 within : (s : State) (cap : ℕ) → decodable s cap ≡ true → (s .head < cap) × (s .count ≤ cap)

@@ -31,9 +31,9 @@ use window::RingGeometry;
 use window::geometry;
 ghost use mathlib.Core.Path.{_≡_};
 ghost use Rattle.dynamics.specs.Region.{Gives};
-ghost use Rattle.dynamics.specs.Machine.{lengthAnswer, startRefusal, decodeRefusal, tickRefusal, stateRefusal, startedWords, isSound, emitAnswer, updateAnswer, updatedWords, tickAnswer};
+ghost use Rattle.dynamics.specs.Machine.{lengthAnswer, startRefusal, decodeRefusal, decodeAnswer, tickRefusal, startedWords, isSound, emitAnswer, updateAnswer, updatedWords, tickAnswer};
 ghost use Rattle.window.specs.Geometry.{geometryOf};
-ghost use Rattle.moving_average.specs.MovingAverage.{machine, opened};
+ghost use Rattle.moving_average.specs.MovingAverage.{stateOf, machine, opened, zeros, reads};
 
 // How many seconds the window spans.
 pub struct MovingAverage {
@@ -53,9 +53,9 @@ pub fn start(settings: MovingAverage, region: &mut [u64]) -> u64
     ensures { λ r. ⌜ Gives (startRefusal (machine settings) (now (region .entry))) (startedWords (machine settings) (now (region .entry))) r (now (region .exit)) ⌝ }
 {
     let shape = geometry(settings.delta);
-    let n = form_refusal(is_finite(settings.delta), region.len() == shape.length);
-    if n != 0 {
-        return n;
+    let refusal = form_refusal(is_finite(settings.delta), region.len() == shape.length);
+    if refusal != 0 {
+        return refusal;
     }
     clear(region);
     region[2] = PREV_T_UNSET;
@@ -65,6 +65,7 @@ pub fn start(settings: MovingAverage, region: &mut [u64]) -> u64
 // A region taken apart.
 pub fn decode(settings: MovingAverage, region: &[u64]) -> Decoded
     ensures { λ r. ⌜ r ≡ opened (decodeRefusal (machine settings) (now (region .entry))) (now (region .entry)) ⌝ }
+    ensures { λ r. ⌜ reads r ≡ decodeAnswer (machine settings) stateOf zeros (now (region .entry)) ⌝ }
 {
     let shape = geometry(settings.delta);
     let n = form_refusal(is_finite(settings.delta), region.len() == shape.length);
@@ -101,16 +102,6 @@ fn admit(settings: MovingAverage, shape: RingGeometry, time: f64, region: &[u64]
         return Decoded::Refused(k);
     }
     Decoded::State(s)
-}
-
-// Tests 6 and 7 alone, for a tick whose form and time are right. The refusal number; 0 is accepted.
-pub fn state_refusal(settings: MovingAverage, time: f64, region: &[u64]) -> u64
-    ensures { λ r. ⌜ r ≡ stateRefusal (machine settings) time (now (region .entry)) ⌝ }
-{
-    let shape = geometry(settings.delta);
-    let s = state_of(region);
-    let previous = s.previous;
-    dynamics::state_refusal(time, decodes(s, shape.capacity), previous)
 }
 
 // The mean as of this tick; nothing is stored.

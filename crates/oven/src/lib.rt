@@ -1,6 +1,8 @@
 // The library for a controller that needs no more: start, tick and run, as `exports` has them, and nothing beside them.
+use dynamics::silent;
 use exports::boundary::AnswerWords;
-use exports::boundary::no_answer;
+use exports::boundary::answer_words;
+use runs::WORDS_PER_ANSWER;
 ghost use Rattle.reals.specs.Words.{realOf};
 ghost use Rattle.dynamics.specs.Region.{Gives};
 ghost use Rattle.blocks.specs.Named.{namedBy};
@@ -29,10 +31,10 @@ pub extern "C" fn oven_tick(
     ensures { λ r. ⌜ Gives (tickSaid (namedBy block (now (settings .entry))) (realOf time) (threeInputs first second third) (now (region .entry))) (updateLeft (namedBy block (now (settings .entry))) (realOf time) (threeInputs first second third) (now (region .entry))) r (now (region .exit)) ⌝ }
 {
     let ticks = [time, first, second, third];
-    let mut answers = [0u64; 4];
+    let mut answers = [0u64; WORDS_PER_ANSWER];
     let refusal = exports::calls::oven_run(block, settings, &ticks, region, &mut answers);
     if refusal != 0 {
-        return no_answer();
+        return answer_words(silent(refusal));
     }
     AnswerWords {
         refusal: answers[0],
@@ -42,7 +44,7 @@ pub extern "C" fn oven_tick(
     }
 }
 
-// Many whole ticks, four words each (time and three inputs), answered in four words each (refusal, real, boolean, warning).
+// Many whole ticks, the words of each (time and three inputs) one after the other, and so are the words of its answer.
 #[no_mangle]
 pub extern "C" fn oven_run(
     block: u64,

@@ -52,4 +52,4 @@ both-wiped = record {
 
 -- so for these settings nothing is assumed
 pub bench-alike : AlikeFromWiping (machine true bench) (account bench)
-bench-alike = wiped-alike bench refl (nearest-fits 0 1)
+bench-alike = wiped-alike bench refl

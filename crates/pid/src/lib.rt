@@ -24,17 +24,17 @@ use reals::real_of;
 pub use state::Decoded;
 pub use state::number_of;
 use state::previous_in;
-pub use state::state_len;
+use state::state_len;
 use state::state_of;
 use state::write;
 ghost use mathlib.Core.Path.{_≡_};
 ghost use lib.Dec.{eqb};
 ghost use Rattle.dynamics.specs.Answer.{formRefusal};
 ghost use Rattle.dynamics.specs.Region.{stored, Gives};
-ghost use Rattle.dynamics.specs.Machine.{lengthAnswer, startRefusal, decodeRefusal, tickRefusal, stateRefusal, startedWords, isSound, emitAnswer, updateAnswer, updatedWords, tickAnswer, admittedAnswer, admittedWords};
+ghost use Rattle.dynamics.specs.Machine.{lengthAnswer, startRefusal, decodeRefusal, decodeAnswer, tickRefusal, startedWords, isSound, emitAnswer, updateAnswer, updatedWords, tickAnswer};
 ghost use Rattle.controller.specs.Settings.{settingsAccepted};
 ghost use Rattle.controller.specs.Recurrence.{termsOf, nextState};
-ghost use Rattle.pid.specs.Pid.{stateLength, wordsOf, initial, heard, machine, opened};
+ghost use Rattle.pid.specs.Pid.{stateLength, stateOf, wordsOf, initial, heard, machine, opened, zeros, reads};
 
 fn init_state(settings: ControllerConfig) -> State
     ensures { λ r. ⌜ r ≡ initial settings ⌝ }
@@ -79,9 +79,9 @@ fn form(settings: ControllerConfig, with_reset: bool, length: usize) -> u64
 pub fn start(settings: ControllerConfig, with_reset: bool, region: &mut [u64]) -> u64
     ensures { λ r. ⌜ Gives (startRefusal (machine «with_reset» settings) (now (region .entry))) (startedWords (machine «with_reset» settings) (now (region .entry))) r (now (region .exit)) ⌝ }
 {
-    let n = form(settings, with_reset, region.len());
-    if n != 0 {
-        return n;
+    let refusal = form(settings, with_reset, region.len());
+    if refusal != 0 {
+        return refusal;
     }
     write(region, settings, with_reset, init_state(settings));
     0
@@ -90,6 +90,7 @@ pub fn start(settings: ControllerConfig, with_reset: bool, region: &mut [u64]) -
 // A region taken apart.
 pub fn decode(settings: ControllerConfig, with_reset: bool, region: &[u64]) -> Decoded
     ensures { λ r. ⌜ r ≡ opened «with_reset» settings (decodeRefusal (machine «with_reset» settings) (now (region .entry))) (now (region .entry)) ⌝ }
+    ensures { λ r. ⌜ reads r ≡ decodeAnswer (machine «with_reset» settings) (stateOf (settings .«controller_type») «with_reset») zeros (now (region .entry)) ⌝ }
 {
     let n = form(settings, with_reset, region.len());
     if n != 0 {
@@ -125,14 +126,6 @@ fn admit(settings: ControllerConfig, with_reset: bool, time: f64, region: &[u64]
         return Decoded::Refused(k);
     }
     Decoded::State(s)
-}
-
-// Tests 6 and 7 alone, for a tick whose form and time are right. The refusal number; 0 is accepted.
-pub fn state_refusal(settings: ControllerConfig, with_reset: bool, time: f64, region: &[u64]) -> u64
-    ensures { λ r. ⌜ r ≡ stateRefusal (machine «with_reset» settings) time (now (region .entry)) ⌝ }
-{
-    let previous = previous_in(region, settings);
-    dynamics::state_refusal(time, previous_sound(previous), previous)
 }
 
 // The output as of this tick, from the integrator before it; nothing is stored.
@@ -207,21 +200,6 @@ pub fn tick(
     let Decoded::State(s) = met else {
         return silent(number_of(met));
     };
-    let terms = step(settings, with_reset, s, time, inputs, region);
-    real_answer(terms.y)
-}
-
-// A whole tick that was admitted before: no test is made.
-pub fn tick_admitted(
-    settings: ControllerConfig,
-    with_reset: bool,
-    time: f64,
-    inputs: Inputs,
-    region: &mut [u64],
-) -> Answer
-    ensures { λ r. ⌜ Gives (admittedAnswer (machine «with_reset» settings) time inputs (now (region .entry))) (admittedWords (machine «with_reset» settings) time inputs (now (region .entry))) r (now (region .exit)) ⌝ }
-{
-    let s = state_of(region, settings, with_reset);
     let terms = step(settings, with_reset, s, time, inputs, region);
     real_answer(terms.y)
 }

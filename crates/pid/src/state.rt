@@ -32,7 +32,7 @@ pub fn number_of(d: Decoded) -> u64
 }
 
 // How many words it keeps.
-pub fn state_len(settings: ControllerConfig, with_reset: bool) -> usize
+pub(crate) fn state_len(settings: ControllerConfig, with_reset: bool) -> usize
     ensures { λ r. ⌜ r ≡ stateLength (settings .«controller_type») «with_reset» ⌝ }
 {
     let controller_type = settings.controller_type;
@@ -45,7 +45,7 @@ pub fn state_len(settings: ControllerConfig, with_reset: bool) -> usize
 }
 
 // What a region's words mean; a part that the type lacks is 0.0, unset or false.
-pub fn state_of(region: &[u64], settings: ControllerConfig, with_reset: bool) -> State
+pub(crate) fn state_of(region: &[u64], settings: ControllerConfig, with_reset: bool) -> State
     ensures { λ r. ⌜ r ≡ stateOf (settings .«controller_type») «with_reset» (now (region .entry)) ⌝ }
 {
     let controller_type = settings.controller_type;
@@ -91,7 +91,7 @@ pub(crate) fn previous_in(region: &[u64], settings: ControllerConfig) -> Previou
 }
 
 // Stores a state in a region of its length.
-pub fn write(region: &mut [u64], settings: ControllerConfig, with_reset: bool, s: State)
+pub(crate) fn write(region: &mut [u64], settings: ControllerConfig, with_reset: bool, s: State)
     ensures { λ _. ⌜ now (region .exit) ≡ stored (now (region .entry)) (wordsOf (settings .«controller_type») «with_reset» s) ⌝ }
 {
     let controller_type = settings.controller_type;

@@ -1,5 +1,7 @@
 // How the calls of a block are stored.
+use blocks::CONTROLLER_SETTINGS;
 ghost use Prim.Native.Nat.{_≤_};
+ghost use Rattle.blocks.specs.Named.{controllerSettings};
 ghost use Rattle.replay.specs.Form.{Sized};
 
 // The block's number, how many settings and inputs it has, and whether its region is given by pairs.
@@ -10,13 +12,13 @@ pub struct Form {
     pub pairs: bool,
 }
 
-// A controller has thirteen settings.
+// No block has more settings than a controller.
 fn settings_of(number: u64) -> usize
-    ensures { λ r. ⌜ r ≤ 13 ⌝ }
+    ensures { λ r. ⌜ r ≤ controllerSettings ⌝ }
 {
     match number {
-        0 => 13,
-        1 => 13,
+        0 => CONTROLLER_SETTINGS,
+        1 => CONTROLLER_SETTINGS,
         4 => 2,
         5 => 2,
         _ => 1,

@@ -8,7 +8,7 @@ mod list;
 mod region;
 mod report;
 
-// The longest list has 148206 bytes, and the largest region of a moving average 262158 words.
+// The longest list has 156145 bytes, and the largest region of a moving average 262158 words.
 fn main() {
     let mut bytes = [0u8; 262144];
     let mut region = [0u64; 262158];

@@ -5,11 +5,11 @@ use Prim.Native.Nat.{ℕ, _%_}
 use native.Mathlib.Omega.{arith}
 use lib.ListN.{length}
 use Rattle.dynamics.specs.Machine.{Machine, updatedWords, tickAnswer}
-use Rattle.runs.specs.Run.{askedBy, asked, answerInWords, ranWords, ranAnswers}
+use Rattle.runs.specs.Run.{wordsPerTick, askedBy, asked, answerInWords, ranWords, ranAnswers}
 use Rattle.runs.specs.declared.words.Asked.{Asked}
 
 -- words of whole ticks before other words
-pub asked-parts : (words more : List ℕ) → length words % 4 ≡ 0 → asked (words ++ more) ≡ asked words ++ asked more
+pub asked-parts : (words more : List ℕ) → length words % wordsPerTick ≡ 0 → asked (words ++ more) ≡ asked words ++ asked more
 unfolding asked
 asked-parts [] more h = refl
 asked-parts (a ∷ []) more h = let z : ⊥ = omega arith in absurd z

@@ -1,8 +1,10 @@
-// Many whole ticks of one block on one lent region: four words a tick in, four words a tick out.
+// Many whole ticks of one block on one lent region: the words of each tick in, the words of each answer out.
 mod loops;
 mod words;
 
 use blocks::Block;
+use blocks::state_length;
+use dynamics::form_refusal;
 use loops::run_moving_average;
 use loops::run_pid;
 use loops::run_timer_accumulating;
@@ -15,13 +17,19 @@ use true_delay::TrueDelay;
 use true_false_hold::TrueFalseHold;
 use true_hold_with_reset::TrueHoldWithReset;
 pub use words::Asked;
+pub use words::WORDS_PER_ANSWER;
+pub use words::WORDS_PER_TICK;
+ghost use mathlib.Core.Bool.{true};
 ghost use mathlib.Core.Path.{_≡_};
 ghost use Rattle.blocks.specs.Block.{machineOf};
-ghost use Rattle.runs.specs.Run.{asked, ranWords, ranAnswers, Fours, Runs};
+ghost use Rattle.runs.specs.Run.{asked, ranWords, ranAnswers, answerEach, runRefusal, Runs};
 
-// Runs ticks of four words each, and answers each in four words. The block is chosen once.
+// The refusal number of words that are not whole ticks, or have not the room of an answer for each.
+const BAD_TICKS: u64 = 14;
+
+// Runs the ticks, and answers each. The block is chosen once.
 fn run_ticks(block: Block, ticks: &[u64], region: &mut [u64], answers: &mut [u64])
-    requires { ⌜ Fours (now ticks) (now answers) ⌝ }
+    requires { ⌜ answerEach (now ticks) (now answers) ≡ true ⌝ }
     ensures { λ _. ⌜ now (region .exit) ≡ ranWords (machineOf block) (now (region .entry)) (asked (now (ticks .entry))) ⌝ }
     ensures { λ _. ⌜ now (answers .exit) ≡ ranAnswers (machineOf block) (now (region .entry)) (asked (now (ticks .entry))) ⌝ }
 {
@@ -73,15 +81,27 @@ fn run_ticks(block: Block, ticks: &[u64], region: &mut [u64], answers: &mut [u64
     }
 }
 
-// A run of ticks. The refusal number: 0, or 14 if the words are not four for each tick and answer; then nothing is written.
+// Why this is no run: 14 by the form of its words, then 2 or 3 as of a start; 0 if it is one.
+fn run_refusal(block: Block, ticks: &[u64], region: &[u64], answers: &[u64]) -> u64
+    ensures { λ r. ⌜ r ≡ runRefusal (machineOf block) (now (ticks .entry)) (now (region .entry)) (now (answers .entry)) ⌝ }
+{
+    if ticks.len() % WORDS_PER_TICK != 0 {
+        return BAD_TICKS;
+    }
+    if answers.len() != WORDS_PER_ANSWER * (ticks.len() / WORDS_PER_TICK) {
+        return BAD_TICKS;
+    }
+    let size = state_length(block);
+    form_refusal(size.refusal == 0, region.len() == size.length)
+}
+
+// A run of ticks. The refusal number; 0 is accepted, and else nothing is written.
 pub fn run(block: Block, ticks: &[u64], region: &mut [u64], answers: &mut [u64]) -> u64
     ensures { λ r. ⌜ Runs (machineOf block) (now (ticks .entry)) (now (region .entry)) (now (answers .entry)) r (now (region .exit)) (now (answers .exit)) ⌝ }
 {
-    if ticks.len() % 4 != 0 {
-        return 14;
-    }
-    if answers.len() != ticks.len() {
-        return 14;
+    let refusal = run_refusal(block, ticks, region, answers);
+    if refusal != 0 {
+        return refusal;
     }
     run_ticks(block, ticks, region, answers);
     0

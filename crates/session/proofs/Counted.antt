@@ -117,7 +117,7 @@ answered-by region r left emit update whole t =
     go false = refl
 
 -- a line on a region whose first words are the block's
-module _ (r : Run) (words rest : List ℕ) (size : length words ≡ machineOf (r .block) .size) where
+module _ (r : Run) (words rest : List ℕ) (size : length words ≡ lengthAnswer (machineOf (r .block)) .length) where
   tick-is : (k : Tick)
       → tickGoes (words ++ rest) r k
       ≡ went-by r (updatedWords (machineOf (r .block)) (k .time) (inputsOf k) words ++ rest) (judged (emitAnswer (machineOf (r .block)) (k .time) (inputsOf k) words))
@@ -126,10 +126,11 @@ module _ (r : Run) (words rest : List ℕ) (size : length words ≡ machineOf (r
       let M = machineOf (r .block) in
       let time = k .time in
       let i = inputsOf k in
-      let front : take (M .size) (words ++ rest) ≡ words = ap (λ (n : ℕ). take n (words ++ rest)) (sym size) ∙ take-append-seam words rest in
-      let back : drop (M .size) (words ++ rest) ≡ rest = ap (λ (n : ℕ). drop n (words ++ rest)) (sym size) ∙ drop-append-seam words rest in
-      let fits : M .size ≤ length (words ++ rest) = omega (arith, length-append words rest, size) in
-      rw (le-leb (M .size) (length (words ++ rest)) fits, front, back)
+      let n = lengthAnswer M .length in
+      let front : take n (words ++ rest) ≡ words = ap (λ (m : ℕ). take m (words ++ rest)) (sym size) ∙ take-append-seam words rest in
+      let back : drop n (words ++ rest) ≡ rest = ap (λ (m : ℕ). drop m (words ++ rest)) (sym size) ∙ drop-append-seam words rest in
+      let fits : n ≤ length (words ++ rest) = omega (arith, length-append words rest, size) in
+      rw (le-leb n (length (words ++ rest)) fits, front, back)
       (answered-by (words ++ rest) r (updatedWords M time i words ++ rest) (emitAnswer M time i words) (updateAnswer M time i words) (tickAnswer M time i words) (tick-together M time i words))
 
   line-is : (line : List ℕ)
@@ -158,7 +159,7 @@ after-length b words line = go (laterOf b line .ok)
 -- ---- all later lines
 
 reports : (lines : List (List ℕ)) (r : Run) (words rest : List ℕ)
-    → length words ≡ machineOf (r .block) .size → r .accepted ≤ largest → r .refused ≤ largest
+    → length words ≡ lengthAnswer (machineOf (r .block)) .length → r .accepted ≤ largest → r .refused ≤ largest
     → let os = outcomes (r .block) words lines in
     answers (words ++ rest) (Running r) lines
     ≡ texts (r .block) os ++ countsText (counted (r .accepted + tally ifAccepted os)) (counted (r .refused + tally ifRefused os))
@@ -217,7 +218,7 @@ module _ (region : List ℕ) (lent : length region ≡ 4110) where
       rw fits
       (ap (λ (w : List ℕ). blockText b ++ answers (w ++ drop n region) (Running (record { block = b; accepted = 0; refused = 0 })) later) begun
       ∙ ap (λ (l : List ℕ). blockText b ++ l)
-      (reports later (record { block = b; accepted = 0; refused = 0 }) (fresh b) (drop n region) (measured b .fresh-sized) (omega arith) (omega arith)
+      (reports later (record { block = b; accepted = 0; refused = 0 }) (fresh b) (drop n region) (measured b .fresh-sized ∙ ap (λ (l : Length). l .length) (sym (length-0 M e))) (omega arith) (omega arith)
       ∙ ap (λ (k : ℕ). texts b os ++ countsText (counted k) (counted (0 + tally ifRefused os))) a
       ∙ ap (λ (k : ℕ). texts b os ++ countsText (counted (tally ifAccepted os)) (counted k)) d))
 

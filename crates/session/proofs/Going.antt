@@ -59,7 +59,7 @@ module _ (region : List ℕ) {nm : Named} where
 
 -- ---- a tick
 
-module _ (region : List ℕ) (r : Run) (k : Tick) (n : ℕ) (size : n ≡ machineOf (r .block) .size) where
+module _ (region : List ℕ) (r : Run) (k : Tick) (n : ℕ) (size : n ≡ lengthAnswer (machineOf (r .block)) .length) where
   -- a tick in the first m words
   abbrev in-words : ℕ → Went
   in-words m =

@@ -58,7 +58,7 @@ answered-short region r left a = either (eqb (a .refusal) 0) _ _ (answer-short (
 
 tick-short : (region : List ℕ) (r : Run) (k : Tick) → Short (tickGoes region r k)
 unfolding tickGoes
-tick-short region r k = either (leb (machineOf (r .block) .size) (length region)) _ _ (answered-short region r _ _) (omega arith)
+tick-short region r k = either (leb (lengthAnswer (machineOf (r .block)) .length) (length region)) _ _ (answered-short region r _ _) (omega arith)
 
 start-short : (region : List ℕ) (b : Block) (n : ℕ) → Short (firstStarts region b n)
 unfolding firstStarts

@@ -76,7 +76,7 @@ module _ (region : List ℕ) where
   unfoldable pub tickGoes : Run → Tick → Went
   tickGoes r k =
       let b = r .block in
-      let n = machineOf b .size in
+      let n = lengthAnswer (machineOf b) .length in
       cond (leb n (length region))
       (tickAnswered r (renewed n (updatedWords (machineOf b) (k .time) (inputsOf k)) region) (tickAnswer (machineOf b) (k .time) (inputsOf k) (take n region)))
       (ends [])

@@ -82,7 +82,8 @@ fn tick_in(run: Run, tick: Tick, region: &mut [u64], out: &mut [u8], at: usize) 
     ensures { λ r. ⌜ Goes (tickGoes (now (region .entry)) run tick) (r .session) (now (region .exit)) (now (out .entry)) at (r .at) (now (out .exit)) ⌝ }
 {
     let block = run.block;
-    let n = blocks::size_of(block);
+    let length = blocks::state_length(block);
+    let n = length.length;
     if region.len() < n {
         return Step {
             session: Session::Over,

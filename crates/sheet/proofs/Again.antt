@@ -113,15 +113,15 @@ pub record Fresh : Type 0 where
 pub record Came (c : Carried) (ws os : List ℕ) (v : Val) : Type 0 where
   pub walk : Walk
   pub region : List ℕ
-  pub answers : List ℕ
+  pub seen : List ℕ
   pub is : Is B.the-row walk (v ∷ [])
-  pub left : Left c walk region answers
+  pub left : Left c walk region seen
   pub long : length region ≡ length ws
-  pub long′ : length answers ≡ length os
+  pub long′ : length seen ≡ length os
 
 -- what it returned and left is all that it carries
 pub carries : {c : Carried} {r : Walk} {ws os : List ℕ} → Left c r ws os → carried r ws os ≡ c
-carries l i = carried (l .found i) (l .region i) (l .answers i)
+carries l i = carried (l .found i) (l .region i) (l .seen i)
 
 -- what a call that carries says once it has returned v: the lifetimes are over, and F is handed back
 abbrev pub Said : {M : Type 1} (𝓤 : URA M) → Carried → List ℕ → List ℕ → Fml → Fresh → Val → Walk × (List ℕ × List ℕ) → Item 𝓤
@@ -134,7 +134,7 @@ module _ {M : Type 1} {𝓤 : URA M} {H : Heap 𝓤} {A : Atoms 𝓤} {K : Type 
       → ((n : Fresh) → ent 𝓤 (⋆ 𝓤 H A (‵ (flft (n .ν ∷ []) fullShare) ∷ ‵ (flft (n .ν′ ∷ []) fullShare) ∷ ‵ (Lent s (n .ν) (n .δ) ws) ∷ ‵ (Lent s′ (n .ν′) (n .δ′) os) ∷ ‵ F ∷ [])) (c .pre (x n)))
       → ((n : Fresh) (v : Val) → ent 𝓤 (c .post (x n) v) (H .⇛ (ex 𝓤 (λ (z : Walk × (List ℕ × List ℕ)). mean 𝓤 H A (Said 𝓤 l ws os F′ n v z)))))
       → ((n : Fresh) → Opds K W (raw (c .pre (x n)) ∷ ‵ (Kept s (n .ν) (n .δ) ws) ∷ ‵ (Kept s′ (n .ν′) (n .δ′) os) ∷ Γ) E xs (c .args (x n)))
-      → ((v : Val) (z : Came l ws os v) → Seq K W (‵ (Held s (z .region)) ∷ ‵ (Held s′ (z .answers)) ∷ ‵ F′ ∷ Γ) (lands C Λ E d v rest q))
+      → ((v : Val) (z : Came l ws os v) → Seq K W (‵ (Held s (z .region)) ∷ ‵ (Held s′ (z .seen)) ∷ ‵ F′ ∷ Γ) (lands C Λ E d v rest q))
       → Seq K W (‵ (Held s ws) ∷ ‵ (Held s′ os) ∷ ‵ F ∷ Γ) (runs C Λ E (Mir.seq (Mir.call f xs d) rest) q)
   calls-lent t fm c met s s′ ws os F F′ l x goes says args k =
       lft-new t tt (λ ν. lft-new t tt (λ ν′. move t (2 ∷ []) $ lends t tt s ws ν (λ δ p. move t (4 ∷ []) $ lends t tt s′ os ν′ (λ δ′ p′.
@@ -148,7 +148,7 @@ module _ {M : Type 1} {𝓤 : URA M} {H : Heap 𝓤} {A : Atoms 𝓤} {K : Type 
       -- [the result; what else the callee took; answers' last words; ν′; region's last words; ν; region's holder's part; answers']
       facts t B.the-row (Is B.the-row) (shows 𝓤 H A B.the-row) (z .0) (v ∷ []) (λ is.
       move t (2 ∷ 6 ∷ 1 ∷ []) $ comes-back t tt s′ os (z .1 .1) ν′ δ′ p′ (e .1 .1) $ move t (3 ∷ 4 ∷ 2 ∷ []) $ comes-back t tt s ws (z .1 .0) ν δ p (e .1 .0) $
-      k v (record { walk = z .0; region = z .1 .0; answers = z .1 .1; is = is; left = e .0; long = e .1 .0; long′ = e .1 .1 })))))))))
+      k v (record { walk = z .0; region = z .1 .0; seen = z .1 .1; is = is; left = e .0; long = e .1 .0; long′ = e .1 .1 })))))))))
 
   pub calls-plain : K → FmC 𝓤 H (W .laws) C → (T : Ended) (c : Clauses 𝓤 T) → Triple 𝓤 (C f) (contractOf 𝓤 H A T c) → (y : contractOf 𝓤 H A T c .Ghost) (Φ : Res (T .signature) (y .0 .0) → Type 0)
       → Makess 𝓤 H A (typesAt (T .signature .params) (y .0 .0)) (Ises (typesAt (T .signature .params) (y .0 .0))) → Are (typesAt (T .signature .params) (y .0 .0)) (Ises (typesAt (T .signature .params) (y .0 .0))) (y .0 .3) (y .0 .4)

@@ -12,20 +12,20 @@ use lib.Seq.{take-all}
 use mir.Val.{Val}
 use denote.Laws.{Is}
 use denote.Struct.Laws as LL
-use Rattle.sheet.specs.Table.{rowsOf, clipped}
+use Rattle.sheet.specs.Table.{tableRows, rowsOf, clipped}
 use Rattle.sheet.specs.declared.table.Table.{Table}
 use Rattle.sheet.proofs.Stretches.{either}
 use Rattle.sheet.proofs.table.Table as B
 use Rattle.sheet.proofs.table.Table.Laws as B′
 
-pub full-of : (t : Table) (vs : List Val) → Is B.the-row t vs → length (t .rows) ≡ 17
+pub full-of : (t : Table) (vs : List Val) → Is B.the-row t vs → length (t .rows) ≡ tableRows
 full-of t vs g = let a = LL.owed B.the-type B′.the-laws t vs g .0 in sym (length-map (t .rows) _) ∙ a .1 .0 .1
 
-pub clipped-few : (count : ℕ) → clipped count ≤ 17
-clipped-few count = ⊎-elim (λ e. rw e (le-refl 17)) (λ e. rw e (ltb-false 17 count e)) (either (ltb 17 count))
+pub clipped-few : (count : ℕ) → clipped count ≤ tableRows
+clipped-few count = ⊎-elim (λ e. rw e (le-refl tableRows)) (λ e. rw e (ltb-false tableRows count e)) (either (ltb tableRows count))
 
-pub clipped-rows : (t : Table) → length (t .rows) ≡ 17 → take (clipped (t .count)) (t .rows) ≡ rowsOf t
+pub clipped-rows : (t : Table) → length (t .rows) ≡ tableRows → take (clipped (t .count)) (t .rows) ≡ rowsOf t
 clipped-rows t full = ⊎-elim
-    (λ e. rw e (take-all 17 (t .rows) (omega (arith, full)) ∙ sym (take-all (t .count) (t .rows) (omega (arith, full, ltb-true 17 (t .count) e)))))
+    (λ e. rw e (take-all tableRows (t .rows) (omega (arith, full)) ∙ sym (take-all (t .count) (t .rows) (omega (arith, full, ltb-true tableRows (t .count) e)))))
     (λ e. rw e refl)
-    (either (ltb 17 (t .count)))
+    (either (ltb tableRows (t .count)))

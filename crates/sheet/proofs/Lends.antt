@@ -39,6 +39,7 @@ use borrow.Table.Elements.{at, cut-app, join-app, length-take-le}
 use borrow.Table.OneValue.{part-in, part-out}
 use borrow.Rule.Slice.Shared.{parts-cells}
 use borrow.Rule.Array.Share.{room-take}
+use Rattle.sheet.specs.Table.{tableRows}
 use Rattle.sheet.specs.declared.row.Row.{Row}
 use Rattle.sheet.proofs.row.Row as R
 use Rattle.sheet.proofs.row.Row.Laws as R′
@@ -82,10 +83,10 @@ module _ (R : RattleType) (b : ℕ) (κ : Lft) (k : ℕ) (xs : List (R .Denot)) 
 
 -- ---- seventeen rows
 abbrev pub Rows : RattleType
-Rows = Array R.the-row 17
+Rows = Array R.the-row tableRows
 
 abbrev rowsTy : Ty
-rowsTy = tyArray (lone (R.the-row .mir)) 17
+rowsTy = tyArray (lone (R.the-row .mir)) tableRows
 
 abbrev pub rowsVals : List Row → List Val
 rowsVals = array-vals (LL.vals R.the-type R′.the-laws)
@@ -94,25 +95,25 @@ abbrev pub rowsVal : List Row → Val
 rowsVal xs = only (rowsVals xs)
 
 pub rows-tell : Tells Rows (Is Rows) rowsVals
-rows-tell = array-tells R.the-row (LL.vals R.the-type R′.the-laws) (LL.tells R.the-type R′.the-laws) 17
+rows-tell = array-tells R.the-row (LL.vals R.the-type R′.the-laws) (LL.tells R.the-type R′.the-laws) tableRows
 
-roomy : Room R.the-row 17
+roomy : Room R.the-row tableRows
 roomy = (omega arith, omega arith)
 
-pub so-many : (n : ℕ) (xs : List Row) → n ≤ 17 → length xs ≡ 17 → length (take n xs) ≡ n
+pub so-many : (n : ℕ) (xs : List Row) → n ≤ tableRows → length xs ≡ tableRows → length (take n xs) ≡ n
 so-many n xs le l = length-take-le n xs (subst (λ (m : ℕ). n ≤ m) (sym l) le)
 
-pub so-roomy : (n : ℕ) (xs : List Row) → length xs ≡ 17 → Room R.the-row (length (take n xs))
-so-roomy n xs l = room-take R.the-row 17 n xs l roomy
+pub so-roomy : (n : ℕ) (xs : List Row) → length xs ≡ tableRows → Room R.the-row (length (take n xs))
+so-roomy n xs l = room-take R.the-row tableRows n xs l roomy
 
 module _ {M : Type 1} {𝓤 : URA M} {H : Heap 𝓤} {A : Atoms 𝓤} {K : Type 0} {W : Given 𝓤 H A} {Γ : List (Item 𝓤)} {G : Goal 𝓤 H} where
   pub lends-rows : K → Soaks G → (b : ℕ) (κ : Lft) (n : ℕ) (xs : List Row) → ((γ : GName) → Seq K W (‵ (Slice R.the-row b κ n xs γ) ∷ ‵ (Lent R.the-row b κ n xs) ∷ Γ) G)
       → Seq K W (‵ (fat fullShare rowsTy b 0 (rowsVal xs)) ∷ ‵ (Rows .own xs (rowsVal xs ∷ [])) ∷ Γ) G
   lends-rows t z b κ n xs s =
-      use2 W (later (some (λ (γ : GName). ‵ (Slice R.the-row b κ n xs γ) ⊛ ‵ (Lent R.the-row b κ n xs)))) (lends-first R.the-row b κ n xs 𝓤 H A W tt 17 (rowsVal xs) roomy) $ await t z $ pick t (λ γ. split t $ s γ)
+      use2 W (later (some (λ (γ : GName). ‵ (Slice R.the-row b κ n xs γ) ⊛ ‵ (Lent R.the-row b κ n xs)))) (lends-first R.the-row b κ n xs 𝓤 H A W tt tableRows (rowsVal xs) roomy) $ await t z $ pick t (λ γ. split t $ s γ)
 
-  pub rows-back : K → Soaks G → (b α n : ℕ) (xs : List Row) → length xs ≡ 17 → Step K W (‵ (froom rowsTy b 0) ∷ Γ) G (‵ (flft (α ∷ []) fullShare) ∷ ‵ (Lent R.the-row b (α ∷ []) n xs) ∷ Γ) G
-  rows-back t z b α n xs l = step (λ s. lft-end t z $ use2 W (later (‵ (froom rowsTy b 0))) (comes-back R.the-row b (α ∷ []) n xs 𝓤 H A W tt 17 l) $ await t z $ s)
+  pub rows-back : K → Soaks G → (b α n : ℕ) (xs : List Row) → length xs ≡ tableRows → Step K W (‵ (froom rowsTy b 0) ∷ Γ) G (‵ (flft (α ∷ []) fullShare) ∷ ‵ (Lent R.the-row b (α ∷ []) n xs) ∷ Γ) G
+  rows-back t z b α n xs l = step (λ s. lft-end t z $ use2 W (later (‵ (froom rowsTy b 0))) (comes-back R.the-row b (α ∷ []) n xs 𝓤 H A W tt tableRows l) $ await t z $ s)
 
 pub rows-typed : {M : Type 1} (𝓤 : URA M) (H : Heap 𝓤) (A : Atoms 𝓤) (W : Given 𝓤 H A) (xs : List Row) → Is Rows xs (rowsVal xs ∷ []) → Holds (hasTy rowsTy (rowsVal xs)) × WT (rowsVal xs)
-rows-typed 𝓤 H A W xs p = array-lawful 𝓤 H A W R.the-row (LL.lawful R.the-type R′.the-laws 𝓤 H A W) 17 .typed xs _ p .0
+rows-typed 𝓤 H A W xs p = array-lawful 𝓤 H A W R.the-row (LL.lawful R.the-type R′.the-laws 𝓤 H A W) tableRows .typed xs _ p .0

@@ -1,15 +1,21 @@
 -- Laws of sheets: what the walks over the rows give, then how the functions that lend rows are walked by hand.
 pub mod Stretches
+pub mod Ends
 pub mod Turning
 pub mod Walks
-pub mod Works
 pub mod Admission
+pub mod Emits
+pub mod Works
 pub mod Results
 pub mod Single
+pub mod Runs
+pub mod Wiping
+pub mod TwoRows
 pub mod Seventeen
 pub mod OneResult
 pub mod Locals
 pub mod Again
 pub mod Rows
+pub mod Words
 pub mod Lends
 pub mod Full

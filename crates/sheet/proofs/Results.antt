@@ -1,127 +1,118 @@
 -- The walks of a call give what the sheet's definitions say. Assumes nothing.
-use Prim.Native.Nat.{ℕ, _+_, _*_, _<_}
+use Prim.Native.Nat.{ℕ, _+_, _*_, _≤_}
 use native.Mathlib.Nat.{zero-add}
 use native.Mathlib.Omega.{arith}
-use mathlib.Core.Path.{_≡_, refl, sym, _∙_}
-use mathlib.Core.Bool.{Bool, true, false, not, _&&_, and-false}
-use mathlib.Core.Logic.{_⊎_, inl, inr, ⊎-elim}
-use mathlib.Core.List.{List, [], _∷_}
-use borrow.Author.Tests.{eqb-true, eqb-false, eq-eqb, ne-eqb, lt-ltb, le-ltb}
-use lib.Dec.{eqb, ltb}
-use lib.ListN.{length}
+use mathlib.Core.Path.{_≡_, refl, sym, _∙_, ap}
+use mathlib.Core.Bool.{true, false, _&&_}
+use mathlib.Core.Logic.{inl, ⊎-elim}
+use mathlib.Core.List.{List, [], _++_}
+use borrow.Author.Tests.{leb-true, eqb-true, eqb-false, eq-eqb, ne-eqb, le-leb}
+use lib.Dec.{eqb, leb}
+use lib.ListN.{length, take, drop, replicate, length-append}
+use lib.Seq.{take-at}
 use lib.Ieee.{Float}
 use lib.Ieee.Scale.{finite}
-use Rattle.dynamics.specs.Previous.{runsBack}
-use Rattle.dynamics.specs.Answer.{refusalOf, laterRefusal}
-use Rattle.dynamics.specs.Machine.{stateRefusal}
+use Rattle.dynamics.specs.Answer.{refusalOf}
 use Rattle.dynamics.proofs.Accepted.{accepted}
 use Rattle.dynamics.proofs.Accepted as by
-use Rattle.blocks.specs.Block.{machineOf}
+use Rattle.blocks.specs.Block.{ticked}
 use Rattle.blocks.specs.declared.block.Tick.{Tick}
 use Rattle.sheet.specs.Rows.{widthOf, Placed, placed, every, anyOf, firstFailing, joined}
-use Rattle.sheet.specs.Sheet.{fewRows, inReach, settled, decodes, onTime, startNumber, tickNumber, rowAtFault, startRow, startsOn, SheetStarted, tickSaid, SheetTicked, answersOf, warnsOf, leftOf}
-use Rattle.sheet.specs.Walk.{Carried, carried, ready, refusedWalk, surveyedRow, examinedRow, turnedIn, turned, begun, surveyed, formed, answerOf, walked, handedOn, starting, ticking, noTick}
+use Rattle.sheet.specs.Sheet.{mostRows, inputWords, rowAnswers, fewRows, inReach, settled, decodes, onTime, startNumber, tickNumber, rowAtFault, startRow, startsOn, SheetStarted, tickBy, tickSaid, SheetTicked, answersOf, warnsOf, leftOf}
+use Rattle.sheet.specs.Walk.{ownWords, Carried, carried, ready, refusedWalk, begun, surveyed, formed, emittedAll, answerOf, walked, handedOn, starting, ticking, InSight, handedOut}
 use Rattle.sheet.specs.declared.row.Row.{Row}
-use Rattle.sheet.specs.declared.walk.Phase.{Phase}
-use Rattle.sheet.specs.declared.walk.Phase.the-variants.{Survey, Start, Examine, Run}
+use Rattle.sheet.specs.declared.walk.Phase.the-variants.{Survey, Start, Emit, Update}
 use Rattle.sheet.specs.declared.walk.Walk.{Walk}
-use Rattle.sheet.proofs.Stretches.{both, either}
-use Rattle.sheet.proofs.Walks.{midway, Above, Finds, FindsAll, as-found, passes-by, over, looked, out-of-reach, unsettled, Misfits, missing, over-left, misfit, every-more, every-both, every-true, topmost, unharmed}
-use Rattle.sheet.proofs.Works.{Works, started, ran, leaves, saidWords, saidWarning}
-use Rattle.sheet.proofs.Admission.{accepts, all-accept, joined-same, any-same, words-same, warning-same, answers-same}
+use Rattle.sheet.proofs.Stretches.{both, either, behind}
+use Rattle.sheet.proofs.Ends.{EndsAre, ended, ended-long, ended-inputs, ends-are}
+use Rattle.sheet.proofs.Walks.{midway, Finds, as-found, passes-by, out-of-reach, unsettled, Misfits, missing, over-left, misfit, unharmed}
+use Rattle.sheet.proofs.Admission.{every-both, fitting, all-fit, gives-6, not-6, gives-7, gives-0, all-accept}
+use Rattle.sheet.proofs.Emits.{Refuses, topmost, shows, Emitted, emits}
+use Rattle.sheet.proofs.Works.{Works, started, updated}
 
--- ---- between walks
--- a record of what was found is the walk that goes on
-onward-is : (f : Walk → Walk) (c : Carried) (ws os : List ℕ) (w : Walk) → c .region ≡ ws → c .answers ≡ os → f (c .found) ≡ w → handedOn f c ≡ carried w ws os
-onward-is f c ws os w d a e = rw (e, d, a)
+-- ---- from walk to walk
+module _ (time : Float) (rs : List Row) (ws : List ℕ) where
+  -- one that is refused ends the call, with the region as it was
+  ends : (f : Walk → Walk) (c : Carried) (m j : ℕ) → c .region ≡ ws → f (c .found) ≡ refusedWalk m j → walked time 0 rs (handedOn f c) ≡ carried (refusedWalk m j) ws (c .seen)
+  ends f c m j d e = rw (e, d) (passes-by time 0 rs m j ws (c .seen))
 
--- ---- a walk that tests, which both calls begin with
-module _ (k : Tick) (rs : List Row) (ws os : List ℕ) (p : Phase) (number : Row → List ℕ → ℕ) (late : (r : Row) (w : List ℕ) → Above 3 (number r w))
-    (goes : (n : ℕ) (r : Row) (rs : List Row) (m j at : ℕ) → over k ws os p number late n (r ∷ rs) (midway p m j at) ≡ over k ws os p number late (n + 1) rs (looked k ws os p number late n r (midway p m j at))) where
-  abbrev first : Carried
-  first = walked k 0 rs (carried (begun (length rs) p) ws os)
+  -- one that goes on does so from what was carried
+  goes-on : (f : Walk → Walk) (c : Carried) (w : Walk) → c .region ≡ ws → f (c .found) ≡ w → walked time 0 rs (handedOn f c) ≡ walked time 0 rs (carried w ws (c .seen))
+  goes-on f c w d e = rw (e, d) refl
 
-  other-count : fewRows (length rs) ≡ false → Finds first 1 0 ws os
-  unfolding begun
-  other-count f = rw (f, passes-by k 0 rs 1 0 ws os) (as-found (refusedWalk 1 0) ws os)
+  -- ---- the survey, which both calls begin with
+  module _ (seen : List ℕ) where
+    abbrev first : Carried
+    first = walked time 0 rs (carried (begun (length rs)) ws seen)
 
-  module _ (few : fewRows (length rs) ≡ true) where
-    begins : begun (length rs) p ≡ ready p
+    other-count : fewRows (length rs) ≡ false → Finds first 1 0 ws
     unfolding begun
-    begins = rw few
+    other-count f = rw (f, passes-by time 0 rs 1 0 ws seen) (as-found (refusedWalk 1 0) ws seen)
 
-    other-column : every inReach rs ≡ false → Finds first 1 0 ws os
-    other-column f = rw begins (out-of-reach k ws os p number late goes 0 rs 0 0 0 f)
+    module _ (few : fewRows (length rs) ≡ true) where
+      begins : begun (length rs) ≡ ready Survey
+      unfolding begun
+      begins = rw few
 
-    module _ (reach : every inReach rs ≡ true) where
-      other-settings : every settled rs ≡ false → Finds first 2 (firstFailing settled rs) ws os
-      other-settings f = rw begins (rw (zero-add (firstFailing settled rs)) at (unsettled k ws os p number late goes 0 rs 0 0 0 (inl refl) reach f))
+      other-column : every inReach rs ≡ false → Finds first 1 0 ws
+      other-column f = rw begins (out-of-reach time ws 0 rs 0 0 0 seen f)
 
-      other-width : (Own : ℕ → Type 0) (all-own : (r : Row) (w : List ℕ) → Own (number r w)) (above : (m : ℕ) → Own m → Above 3 m) → Own 0
-          → every settled rs ≡ true → eqb (length ws) (widthOf rs) ≡ false → Misfits k ws os p number late goes Own all-own above first
-      other-width Own all-own above none settles f =
-          rw begins (misfit k ws os p number late goes Own all-own above 0 rs 0 0 0 none reach settles (λ z. eqb-false (length ws) (widthOf rs) f (sym (sym (zero-add (widthOf rs)) ∙ z))))
+      module _ (reach : every inReach rs ≡ true) where
+        other-settings : every settled rs ≡ false → Finds first 2 (firstFailing settled rs) ws
+        other-settings f = rw begins (rw (zero-add (firstFailing settled rs)) at (unsettled time ws 0 rs 0 0 0 seen (inl refl) reach f))
 
-      same-width : every settled rs ≡ true → eqb (length ws) (widthOf rs) ≡ true → 0 + widthOf rs ≡ length ws
-      same-width settles fits = zero-add (widthOf rs) ∙ sym (eqb-true (length ws) (widthOf rs) fits)
+        module _ (settles : every settled rs ≡ true) where
+          other-width : eqb (length ws) (widthOf rs) ≡ false → Misfits time ws first
+          other-width f = rw begins (misfit time ws 0 rs 0 seen reach settles (λ z. eqb-false (length ws) (widthOf rs) f (sym (sym (zero-add (widthOf rs)) ∙ z))))
 
--- ---- a start: its survey asks nothing of the words
-abbrev nothing : Row → List ℕ → ℕ
-nothing r w = 0
+          module _ (fits : eqb (length ws) (widthOf rs) ≡ true) where
+            all : 0 + widthOf rs ≡ length ws
+            all = zero-add (widthOf rs) ∙ sym (eqb-true (length ws) (widthOf rs) fits)
 
-survey-goes : (ws os : List ℕ) (n : ℕ) (r : Row) (rs : List Row) (m j at : ℕ)
-    → over noTick ws os Survey nothing (λ r w. inl refl) n (r ∷ rs) (midway Survey m j at) ≡ over noTick ws os Survey nothing (λ r w. inl refl) (n + 1) rs (looked noTick ws os Survey nothing (λ r w. inl refl) n r (midway Survey m j at))
-unfolding walked turned turnedIn surveyedRow
-survey-goes ws os n r rs m j at = refl
+            no-fault : first ≡ carried (midway Survey 0 0 (length ws)) ws (ended 0 rs 0 seen)
+            no-fault = rw begins (unharmed time ws 0 rs 0 seen all reach settles)
 
-module _ (rs : List Row) (ws : List ℕ) where
-  abbrev late-nothing : (r : Row) (w : List ℕ) → Above 3 (nothing r w)
-  late-nothing r w = inl refl
-
-  abbrev only : Carried
-  only = first noTick rs ws [] Survey nothing late-nothing (survey-goes ws [])
+-- ---- a start
+module _ (time : Float) (rs : List Row) (ws : List ℕ) where
+  abbrev survey : Carried
+  survey = first time rs ws []
 
   abbrev measure : Walk → Walk
   measure w = surveyed w (length ws)
 
   abbrev StartSaid : Type 0
-  StartSaid = SheetStarted rs ws (answerOf (starting rs ws .found)) (starting rs ws .region)
+  StartSaid = SheetStarted rs ws (answerOf (starting time rs ws .found)) (starting time rs ws .region)
 
-  start-refusal-is : (m j : ℕ) → (m ≡ 0 → ⊥) → starting rs ws ≡ carried (refusedWalk m j) ws [] → startNumber rs ws ≡ m → startRow m rs ≡ j → StartSaid
+  start-refusal-is : (m j : ℕ) → (m ≡ 0 → ⊥) → starting time rs ws ≡ carried (refusedWalk m j) ws (survey .seen) → startNumber rs ws ≡ m → startRow m rs ≡ j → StartSaid
   start-refusal-is m j some e n row = rw e (record { answer = rw (n, row) refl; region = rw n (by.refused _ _ m refl some) })
 
-  start-stops : (m j : ℕ) → only .region ≡ ws → only .answers ≡ [] → measure (only .found) ≡ refusedWalk m j → starting rs ws ≡ carried (refusedWalk m j) ws []
-  start-stops m j d a e = rw (onward-is measure only ws [] (refusedWalk m j) d a e) (passes-by noTick 0 rs m j ws [])
-
-  start-stands : (m j : ℕ) → (m ≡ 0 → ⊥) → Finds only m j ws [] → starting rs ws ≡ carried (refusedWalk m j) ws []
+  start-stands : (m j : ℕ) → (m ≡ 0 → ⊥) → Finds survey m j ws → starting time rs ws ≡ carried (refusedWalk m j) ws (survey .seen)
   unfolding surveyed
-  start-stands m j some d = start-stops m j (d .region-is) (d .answers-is) (rw (d .number-is, d .row-is, ne-eqb m 0 some) refl)
+  start-stands m j some d = ends time rs ws measure survey m j (d .region-is) (rw (d .number-is, d .row-is, ne-eqb m 0 some) refl)
 
   start-count : fewRows (length rs) ≡ false → StartSaid
   unfolding startNumber refusalOf startRow
-  start-count f = start-refusal-is 1 0 (λ z. omega arith) (start-stands 1 0 (λ z. omega arith) (other-count noTick rs ws [] Survey nothing late-nothing (survey-goes ws []) f)) (simp f) refl
+  start-count f = start-refusal-is 1 0 (λ z. omega arith) (start-stands 1 0 (λ z. omega arith) (other-count time rs ws [] f)) (simp f) refl
 
   module _ (few : fewRows (length rs) ≡ true) where
     start-column : every inReach rs ≡ false → StartSaid
     unfolding startNumber refusalOf startRow
-    start-column f =
-        start-refusal-is 1 0 (λ z. omega arith) (start-stands 1 0 (λ z. omega arith) (other-column noTick rs ws [] Survey nothing late-nothing (survey-goes ws []) few f)) (simp (few, f)) refl
+    start-column f = start-refusal-is 1 0 (λ z. omega arith) (start-stands 1 0 (λ z. omega arith) (other-column time rs ws [] few f)) (simp (few, f)) refl
 
     module _ (reach : every inReach rs ≡ true) where
       start-settings : every settled rs ≡ false → StartSaid
       unfolding startNumber refusalOf startRow
       start-settings f =
-          start-refusal-is 2 (firstFailing settled rs) (λ z. omega arith)
-          (start-stands 2 (firstFailing settled rs) (λ z. omega arith) (other-settings noTick rs ws [] Survey nothing late-nothing (survey-goes ws []) few reach f)) (simp (few, reach, f)) refl
+          start-refusal-is 2 (firstFailing settled rs) (λ z. omega arith) (start-stands 2 (firstFailing settled rs) (λ z. omega arith) (other-settings time rs ws [] few reach f)) (simp (few, reach, f)) refl
 
       module _ (settles : every settled rs ≡ true) where
         start-length : eqb (length ws) (widthOf rs) ≡ false → StartSaid
         unfolding startNumber refusalOf startRow
-        start-length f = start-refusal-is 3 0 (λ z. omega arith) (go (other-width noTick rs ws [] Survey nothing late-nothing (survey-goes ws []) few reach (λ m. m ≡ 0) (λ r w. refl) (λ m z. inl z) refl settles f)) (simp (few, reach, settles, f)) refl
+        start-length f = start-refusal-is 3 0 (λ z. omega arith) (go (other-width time rs ws [] few reach settles f)) (simp (few, reach, settles, f)) refl
           where
-            go : Misfits noTick ws [] Survey nothing late-nothing (survey-goes ws []) (λ m. m ≡ 0) (λ r w. refl) (λ m z. inl z) only → starting rs ws ≡ carried (refusedWalk 3 0) ws []
+            go : Misfits time ws survey → starting time rs ws ≡ carried (refusedWalk 3 0) ws (survey .seen)
             go (missing d) = start-stands 3 0 (λ z. omega arith) d
-            go (over-left z off d a) = start-stops 3 0 d a (unfold surveyed in rw (z, ne-eqb (only .found .at) (length ws) off) refl)
+            go (over-left d off) = ends time rs ws measure survey 3 0 (d .region-is) (unfold surveyed in rw (d .number-is, ne-eqb (survey .found .at) (length ws) off) refl)
 
         starts : eqb (length ws) (widthOf rs) ≡ true → StartSaid
         starts fits = record {
@@ -132,18 +123,11 @@ module _ (rs : List Row) (ws : List ℕ) where
             number : startNumber rs ws ≡ 0
             number = unfold startNumber refusalOf in simp (few, reach, settles, fits)
 
-            all : 0 + widthOf rs ≡ length ws
-            all = same-width noTick rs ws [] Survey nothing late-nothing (survey-goes ws []) few reach settles fits
+            onward : starting time rs ws ≡ walked time 0 rs (carried (ready Start) ws (ended 0 rs 0 []))
+            onward = rw (no-fault time rs ws [] few reach settles fits) (goes-on time rs ws measure (carried (midway Survey 0 0 (length ws)) ws (ended 0 rs 0 [])) (ready Start) refl (unfold surveyed in rw (eq-eqb (length ws) (length ws) refl) refl))
 
-            none : FindsAll only 0 0 ws []
-            none = rw (begins noTick rs ws [] Survey nothing late-nothing (survey-goes ws []) few)
-                (unharmed noTick ws [] Survey nothing late-nothing (survey-goes ws []) 0 rs 0 all reach settles (every-true (placed rs ws)))
-
-            goes : handedOn measure only ≡ carried (ready Start) ws []
-            goes = onward-is measure only ws [] (ready Start) (none .found .region-is) (none .found .answers-is) (unfold surveyed in rw (none .found .number-is, none .at-end, eq-eqb (length ws) (length ws) refl) refl)
-
-            works : Works (starting rs ws) false (joined startsOn (placed rs ws)) []
-            works = rw goes (started noTick 0 rs 0 ws [] all settles)
+            works : Works (starting time rs ws) false (joined startsOn (placed rs ws)) (ended 0 rs 0 [])
+            works = rw onward (started time 0 rs 0 ws (ended 0 rs 0 []) (all time rs ws [] few reach settles fits) settles)
 
   -- a start's two walks give what the sheet's definition says
   pub start-is : StartSaid
@@ -154,222 +138,177 @@ module _ (rs : List Row) (ws : List ℕ) where
       (start-column few) (either (every inReach rs)))
       start-count (either (fewRows (length rs)))
 
--- ---- a tick: its first walk makes tests 6 and 7 on the words
-module _ (k : Tick) where
+-- ---- a tick
+module _ (k : Tick) (rs : List Row) (ws os seen : List ℕ) (sight : InSight k seen) where
   abbrev time : Float
   time = k .time
 
-  abbrev state : Row → List ℕ → ℕ
-  state r w = stateRefusal (machineOf (r .block)) time w
+  abbrev ps : List Placed
+  ps = placed rs ws
 
-  late-state : (r : Row) (w : List ℕ) → Above 3 (state r w)
-  unfolding stateRefusal laterRefusal
-  late-state r w = go (machineOf (r .block) .decodes w) (not (runsBack time (machineOf (r .block) .previous w)))
-    where
-      go : (d o : Bool) → Above 3 (refusalOf true true true true true d o)
-      go false o = unfold refusalOf in inr (omega arith)
-      go true false = unfold refusalOf in inr (omega arith)
-      go true true = unfold refusalOf in inl refl
+  abbrev form : Walk → Walk
+  form w = formed w (length rs) (length ws) (length os) time
 
-  module _ (rs : List Row) (ws os : List ℕ) where
-    examine-goes : (n : ℕ) (r : Row) (rs : List Row) (m j at : ℕ) → over k ws os Examine state late-state n (r ∷ rs) (midway Examine m j at) ≡ over k ws os Examine state late-state (n + 1) rs (looked k ws os Examine state late-state n r (midway Examine m j at))
-    unfolding walked turned turnedIn examinedRow
-    examine-goes n r rs m j at = refl
+  -- after the survey, after the emits, and at the end
+  abbrev looked : Carried
+  looked = first time rs ws seen
 
-    abbrev ps : List Placed
-    ps = placed rs ws
+  abbrev noted-ends : List ℕ
+  noted-ends = ended 0 rs 0 seen
 
-    abbrev tested : Carried
-    tested = first k rs ws os Examine state late-state examine-goes
+  abbrev emitted : Carried
+  emitted = walked time 0 rs (handedOn form looked)
 
-    abbrev form : Walk → Walk
-    form w = formed w (length rs) (length ws) (length os) time
+  abbrev last : Carried
+  last = ticking time rs ws seen (length os)
 
-    abbrev Said : Type 0
-    Said = SheetTicked k rs ws os (answerOf (ticking k rs ws os .found)) (ticking k rs ws os .region) (ticking k rs ws os .answers)
+  abbrev Said : Type 0
+  Said = SheetTicked k rs ws os (answerOf (last .found)) (last .region) (handedOut (last .found) (last .seen) os)
 
-    -- what the contract says of a refusal
-    refusal-is : (m j : ℕ) → (m ≡ 0 → ⊥) → ticking k rs ws os ≡ carried (refusedWalk m j) ws os → tickNumber time rs ws os ≡ m → rowAtFault m time rs ws ≡ j → Said
-    unfolding tickSaid
-    refusal-is m j some e n row = rw e (record { answer = rw (n, row) (by.refused _ _ m refl some); region = rw n (by.refused _ _ m refl some); answers = rw n (by.refused _ _ m refl some) })
+  -- what the contract says of a refusal
+  refusal-is : (m j : ℕ) (zs : List ℕ) → (m ≡ 0 → ⊥) → last ≡ carried (refusedWalk m j) ws zs → tickNumber time rs ws os ≡ m → rowAtFault m time rs ws ≡ j → Said
+  unfolding tickSaid
+  refusal-is m j zs some e n row = rw e (record {
+    answer = rw (n, row) (by.refused _ _ m refl some);
+    region = rw n (by.refused _ _ m refl some);
+    answers = rw (n, ne-eqb m 0 some) (by.refused _ _ m refl some);
+  })
 
-    stops : (m j : ℕ) → tested .region ≡ ws → tested .answers ≡ os → form (tested .found) ≡ refusedWalk m j → ticking k rs ws os ≡ carried (refusedWalk m j) ws os
-    stops m j d a e = rw (onward-is form tested ws os (refusedWalk m j) d a e) (passes-by k 0 rs m j ws os)
+  -- a survey, or the emits, that found a fault
+  stops : (m j : ℕ) → (m ≡ 0 → ⊥) → looked .region ≡ ws → form (looked .found) ≡ refusedWalk m j → last ≡ carried (refusedWalk m j) ws (looked .seen)
+  stops m j some d e = rw (ends time rs ws form looked m j d e) (ends time rs ws emittedAll (carried (refusedWalk m j) ws (looked .seen)) m j refl (rw (ne-eqb m 0 some) refl))
 
-    -- a fault of 1 to 3 stands
-    stands : (m j : ℕ) → (m ≡ 0 → ⊥) → m < 4 → Finds tested m j ws os → ticking k rs ws os ≡ carried (refusedWalk m j) ws os
-    unfolding formed
-    stands m j some low d = stops m j (d .region-is) (d .answers-is) (rw (d .number-is, d .row-is, ne-eqb m 0 some, lt-ltb m 4 low) refl)
+  halts : (m j : ℕ) → (m ≡ 0 → ⊥) → Refuses time ws emitted m j → last ≡ carried (refusedWalk m j) ws (emitted .seen)
+  halts m j some d = ends time rs ws emittedAll emitted m j (d .region-is) (rw (d .number-is, d .row-is, ne-eqb m 0 some) refl)
 
-    -- one above them waits for tests 3, 4 and 5
-    waits : (m : ℕ) → Above 3 m → (not (eqb m 0) && ltb m 4) ≡ false
-    waits m (inl z) = rw z refl
-    waits m (inr l) = rw (le-ltb m 4 l, and-false (not (eqb m 0))) refl
+  stands : (m j : ℕ) → (m ≡ 0 → ⊥) → Finds looked m j ws → last ≡ carried (refusedWalk m j) ws (looked .seen)
+  unfolding formed
+  stands m j some d = stops m j some (d .region-is) (rw (d .number-is, d .row-is, ne-eqb m 0 some) refl)
 
-    too-few-or-many : fewRows (length rs) ≡ false → Said
+  too-few-or-many : fewRows (length rs) ≡ false → Said
+  unfolding tickNumber refusalOf rowAtFault
+  too-few-or-many f = refusal-is 1 0 _ (λ z. omega arith) (stands 1 0 (λ z. omega arith) (other-count time rs ws seen f)) (simp f) refl
+
+  -- the tick's own words, after the survey
+  long : length seen ≡ ownWords
+  long = rw (sight .words, length-append (k .words) (replicate (rowAnswers * mostRows + mostRows) 0), sight .eight) refl
+
+  eight : take inputWords noted-ends ≡ k .words
+  eight = ended-inputs 0 rs 0 seen ∙ rw (sight .words) (take-at (k .words) (replicate (rowAnswers * mostRows + mostRows) 0) inputWords (sight .eight))
+
+  module _ (few : fewRows (length rs) ≡ true) where
+    rows : 0 + length rs ≤ mostRows
+    rows = rw (zero-add (length rs)) (leb-true (length rs) mostRows (both (leb 1 (length rs)) (leb (length rs) mostRows) few .1))
+
+    there : EndsAre 0 rs 0 noted-ends
+    there = ends-are 0 rs 0 seen rows long
+
+    no-such-column : every inReach rs ≡ false → Said
     unfolding tickNumber refusalOf rowAtFault
-    too-few-or-many f = refusal-is 1 0 (λ z. omega arith) (stands 1 0 (λ z. omega arith) (omega arith) (other-count k rs ws os Examine state late-state examine-goes f)) (simp f) refl
+    no-such-column f = refusal-is 1 0 _ (λ z. omega arith) (stands 1 0 (λ z. omega arith) (other-column time rs ws seen few f)) (simp (few, f)) refl
 
-    module _ (few : fewRows (length rs) ≡ true) where
-      no-such-column : every inReach rs ≡ false → Said
+    module _ (reach : every inReach rs ≡ true) where
+      bad-settings : every settled rs ≡ false → Said
       unfolding tickNumber refusalOf rowAtFault
-      no-such-column f =
-          refusal-is 1 0 (λ z. omega arith) (stands 1 0 (λ z. omega arith) (omega arith) (other-column k rs ws os Examine state late-state examine-goes few f)) (simp (few, f)) refl
+      bad-settings f =
+          refusal-is 2 (firstFailing settled rs) _ (λ z. omega arith) (stands 2 (firstFailing settled rs) (λ z. omega arith) (other-settings time rs ws seen few reach f)) (simp (few, reach, f)) refl
 
-      module _ (reach : every inReach rs ≡ true) where
-        bad-settings : every settled rs ≡ false → Said
+      module _ (settles : every settled rs ≡ true) where
+        another-length : eqb (length ws) (widthOf rs) ≡ false → Said
         unfolding tickNumber refusalOf rowAtFault
-        bad-settings f =
-            refusal-is 2 (firstFailing settled rs) (λ z. omega arith)
-            (stands 2 (firstFailing settled rs) (λ z. omega arith) (omega arith) (other-settings k rs ws os Examine state late-state examine-goes few reach f)) (simp (few, reach, f)) refl
+        another-length f = refusal-is 3 0 _ (λ z. omega arith) (go (other-width time rs ws seen few reach settles f)) (simp (few, reach, settles, f)) refl
+          where
+            go : Misfits time ws looked → last ≡ carried (refusedWalk 3 0) ws (looked .seen)
+            go (missing d) = stands 3 0 (λ z. omega arith) d
+            go (over-left d off) = stops 3 0 (λ z. omega arith) (d .region-is) (unfold formed in rw (d .number-is, ne-eqb (looked .found .at) (length ws) off) refl)
 
-        module _ (settles : every settled rs ≡ true) where
-          another-length : eqb (length ws) (widthOf rs) ≡ false → Said
-          unfolding tickNumber refusalOf rowAtFault
-          another-length f =
-              refusal-is 3 0 (λ z. omega arith) (go (other-width k rs ws os Examine state late-state examine-goes few reach (Above 3) late-state (λ m h. h) (inl refl) settles f)) (simp (few, reach, settles, f)) refl
-            where
-              go : Misfits k ws os Examine state late-state examine-goes (Above 3) late-state (λ m h. h) tested → ticking k rs ws os ≡ carried (refusedWalk 3 0) ws os
-              go (missing d) = stands 3 0 (λ z. omega arith) (omega arith) d
-              go (over-left h off d a) = stops 3 0 d a (unfold formed in rw (waits (tested .found .refusal) h, ne-eqb (tested .found .at) (length ws) off) refl)
+        module _ (fits : eqb (length ws) (widthOf rs) ≡ true) where
+          surveyed-all : looked ≡ carried (midway Survey 0 0 (length ws)) ws noted-ends
+          surveyed-all = no-fault time rs ws seen few reach settles fits
 
-          module _ (fits : eqb (length ws) (widthOf rs) ≡ true) where
-            all : 0 + widthOf rs ≡ length ws
-            all = same-width k rs ws os Examine state late-state examine-goes few reach settles fits
+          width : 0 + widthOf rs ≡ length ws
+          width = all time rs ws seen few reach settles fits
 
-            start-of : begun (length rs) Examine ≡ ready Examine
-            start-of = begins k rs ws os Examine state late-state examine-goes few
+          -- what is found next, by what `form` makes of a survey without a fault
+          abbrev formed-is : Walk → Type 0
+          formed-is w = form (midway Survey 0 0 (length ws)) ≡ w
 
-            -- what a row's words give
-            gives-6 : (x : Placed) → true ≡ true → decodes x ≡ false → state (x .row) (x .words) ≡ 6
-            unfolding stateRefusal laterRefusal refusalOf
-            gives-6 x _ e = simp e
+          stops-here : (m : ℕ) → (m ≡ 0 → ⊥) → formed-is (refusedWalk m 0) → last ≡ carried (refusedWalk m 0) ws (looked .seen)
+          stops-here m some e = stops m 0 some (ap (λ (c : Carried). c .region) surveyed-all) (ap (λ (c : Carried). form (c .found)) surveyed-all ∙ e)
 
-            not-6 : (x : Placed) → true ≡ true → decodes x ≡ true → Above 6 (state (x .row) (x .words))
-            unfolding stateRefusal laterRefusal refusalOf
-            not-6 x _ e = rw e (go (onTime time x))
-              where
-                go : (o : Bool) → Above 6 (refusalOf true true true true true true o)
-                go true = unfold refusalOf in inl refl
-                go false = unfold refusalOf in inr (omega arith)
+          another-space : eqb (length os) (rowAnswers * length rs) ≡ false → Said
+          unfolding formed tickNumber refusalOf rowAtFault
+          another-space f = refusal-is 4 0 _ (λ z. omega arith) (stops-here 4 (λ z. omega arith) (rw (eq-eqb (length ws) (length ws) refl, f) refl)) (simp (few, reach, settles, fits, f)) refl
 
-            gives-7 : (x : Placed) → decodes x ≡ true → onTime time x ≡ false → state (x .row) (x .words) ≡ 7
-            unfolding stateRefusal laterRefusal refusalOf
-            gives-7 x d e = simp (d, e)
-
-            gives-0 : (x : Placed) → decodes x ≡ true → onTime time x ≡ true → state (x .row) (x .words) ≡ 0
-            unfolding stateRefusal laterRefusal refusalOf
-            gives-0 x d e = simp (d, e)
-
-            found-6 : every decodes ps ≡ false → FindsAll tested 6 (firstFailing decodes ps) ws os
-            found-6 f = rw start-of (rw (zero-add (firstFailing decodes ps)) at
-                (topmost k ws os Examine state late-state examine-goes 6 (λ z. omega arith) (λ x. true) decodes gives-6 not-6 0 rs 0 0 0 (inl refl) all reach settles (every-true ps) f))
-
-            module _ (decoded : every decodes ps ≡ true) where
-              found-7 : every (onTime time) ps ≡ false → FindsAll tested 7 (firstFailing (onTime time) ps) ws os
-              found-7 f = rw start-of (rw (zero-add (firstFailing (onTime time) ps)) at
-                  (topmost k ws os Examine state late-state examine-goes 7 (λ z. omega arith) decodes (onTime time) gives-7 (λ x d e. inl (gives-0 x d e)) 0 rs 0 0 0 (inl refl) all reach settles decoded f))
-
-              found-0 : every (onTime time) ps ≡ true → FindsAll tested 0 0 ws os
-              found-0 t = rw start-of (unharmed k ws os Examine state late-state examine-goes 0 rs 0 all reach settles both-pass)
-                where
-                  both-pass : every (λ x. eqb (state (x .row) (x .words)) 0) ps ≡ true
-                  both-pass = every-more (λ x. decodes x && onTime time x) _ (λ x e. let (d, o) = both (decodes x) (onTime time x) e in eq-eqb _ _ (gives-0 x d o)) ps (every-both decodes (onTime time) ps decoded t)
-
-            -- whatever it is, it comes behind tests 4 and 5
-            record Counted : Type 0 where
-              number : ℕ
-              row : ℕ
-              counts : FindsAll tested number row ws os
-              above : Above 3 number
-
-            counted : Counted
-            counted = ⊎-elim
-                (λ d. ⊎-elim
-                (λ o. record { number = 0; row = 0; counts = found-0 d o; above = inl refl })
-                (λ o. record { number = 7; row = _; counts = found-7 d o; above = inr (omega arith) })
-                (either (every (onTime time) ps)))
-                (λ d. record { number = 6; row = _; counts = found-6 d; above = inr (omega arith) })
-                (either (every decodes ps))
-
-            -- the tests before the rows' own
-            abbrev m : ℕ
-            m = tested .found .refusal
-
-            held-back : (not (eqb m 0) && ltb m 4) ≡ false
-            held-back = waits m (rw (counted .counts .found .number-is) (counted .above))
-
-            at-end : eqb (tested .found .at) (length ws) ≡ true
-            at-end = eq-eqb _ _ (counted .counts .at-end)
-
-            unchanged : (tested .region ≡ ws) × (tested .answers ≡ os)
-            unchanged = (counted .counts .found .region-is, counted .counts .found .answers-is)
-
-            another-space : eqb (length os) (2 * length rs) ≡ false → Said
+          module _ (space : eqb (length os) (rowAnswers * length rs) ≡ true) where
+            no-time : finite time ≡ false → Said
             unfolding formed tickNumber refusalOf rowAtFault
-            another-space f = refusal-is 4 0 (λ z. omega arith) (stops 4 0 (unchanged .0) (unchanged .1) (rw (held-back, at-end, f) refl)) (simp (few, reach, settles, fits, f)) refl
+            no-time f = refusal-is 5 0 _ (λ z. omega arith) (stops-here 5 (λ z. omega arith) (rw (eq-eqb (length ws) (length ws) refl, space, f) refl)) (simp (few, reach, settles, fits, space, f)) refl
 
-            module _ (space : eqb (length os) (2 * length rs) ≡ true) where
-              no-time : finite time ≡ false → Said
-              unfolding formed tickNumber refusalOf rowAtFault
-              no-time f = refusal-is 5 0 (λ z. omega arith) (stops 5 0 (unchanged .0) (unchanged .1) (rw (held-back, at-end, space, f) refl)) (simp (few, reach, settles, fits, space, f)) refl
+            module _ (timely : finite time ≡ true) where
+              emits-from : emitted ≡ walked time 0 rs (carried (ready Emit) ws noted-ends)
+              unfolding formed
+              emits-from = rw surveyed-all (goes-on time rs ws form (carried (midway Survey 0 0 (length ws)) ws noted-ends) (ready Emit) refl (rw (eq-eqb (length ws) (length ws) refl, space, timely) refl))
 
-              module _ (timely : finite time ≡ true) where
-                -- a fault of 6 or 7
-                own-fault : (m j : ℕ) → (m ≡ 0 → ⊥) → FindsAll tested m j ws os → form (tested .found) ≡ refusedWalk m j
-                unfolding formed
-                own-fault m j some d = rw (held-back, at-end, space, timely, d .found .number-is, d .found .row-is, ne-eqb m 0 some) refl
+              fit : every fitting ps ≡ true
+              fit = all-fit rs ws (sym (zero-add (widthOf rs)) ∙ width) settles
 
-                bad-words : every decodes ps ≡ false → Said
+              bad-words : every decodes ps ≡ false → Said
+              unfolding tickNumber refusalOf rowAtFault
+              bad-words f = refusal-is 6 (firstFailing decodes ps) _ (λ z. omega arith) (halts 6 _ (λ z. omega arith) found) (simp (few, reach, settles, fits, space, timely, f)) refl
+                where
+                  found : Refuses time ws emitted 6 (firstFailing decodes ps)
+                  found = rw emits-from (rw (zero-add (firstFailing decodes ps)) at
+                      (topmost time ws 6 (λ z. omega arith) fitting decodes (gives-6 time timely) (not-6 time timely) 0 rs 0 0 0 noted-ends (inl refl) width rows there fit f))
+
+              module _ (decoded : every decodes ps ≡ true) where
+                running-back : every (onTime time) ps ≡ false → Said
                 unfolding tickNumber refusalOf rowAtFault
-                bad-words f =
-                    refusal-is 6 (firstFailing decodes ps) (λ z. omega arith) (stops 6 _ (unchanged .0) (unchanged .1) (own-fault 6 _ (λ z. omega arith) (found-6 f)))
-                    (simp (few, reach, settles, fits, space, timely, f)) refl
+                running-back f = refusal-is 7 (firstFailing (onTime time) ps) _ (λ z. omega arith) (halts 7 _ (λ z. omega arith) found) (simp (few, reach, settles, fits, space, timely, decoded, f)) refl
+                  where
+                    found : Refuses time ws emitted 7 (firstFailing (onTime time) ps)
+                    found = rw emits-from (rw (zero-add (firstFailing (onTime time) ps)) at
+                        (topmost time ws 7 (λ z. omega arith) (λ x. fitting x && decodes x) (onTime time)
+                        (λ x e y. let (a, b) = both (fitting x) (decodes x) e in gives-7 time timely x a b y)
+                        (λ x e y. let (a, b) = both (fitting x) (decodes x) e in inl (gives-0 time timely x a b y))
+                        0 rs 0 0 0 noted-ends (inl refl) width rows there (every-both fitting decodes ps fit decoded) f))
 
-                module _ (decoded : every decodes ps ≡ true) where
-                  running-back : every (onTime time) ps ≡ false → Said
-                  unfolding tickNumber refusalOf rowAtFault
-                  running-back f =
-                      refusal-is 7 (firstFailing (onTime time) ps) (λ z. omega arith) (stops 7 _ (unchanged .0) (unchanged .1) (own-fault 7 _ (λ z. omega arith) (found-7 decoded f)))
-                      (simp (few, reach, settles, fits, space, timely, decoded, f)) refl
+                module _ (ordered : every (onTime time) ps ≡ true) where
+                  number : tickNumber time rs ws os ≡ 0
+                  unfolding tickNumber refusalOf
+                  number = simp (few, reach, settles, fits, space, timely, decoded, ordered)
 
-                  in-order : every (onTime time) ps ≡ true → Said
-                  in-order t = said
-                    where
-                      accept-all : every (accepts time) ps ≡ true
-                      accept-all = all-accept time rs ws (sym (zero-add (widthOf rs)) ∙ all) settles timely decoded t
+                  -- the emits
+                  shown : Emitted k ws emitted (length rs) (k .words ++ joined (shows k ws) ps) noted-ends
+                  shown = rw emits-from (rw (eight, zero-add (length rs)) at
+                      (emits k ws 0 rs 0 noted-ends width there reach (all-accept time rs ws (sym (zero-add (widthOf rs)) ∙ width) settles timely decoded ordered) rows (ended-long 0 rs 0 seen ∙ long) eight))
 
-                      number : tickNumber time rs ws os ≡ 0
-                      number = unfold tickNumber refusalOf in simp (few, reach, settles, fits, space, timely, decoded, t)
+                  -- the updates
+                  works : Works last (anyOf (warnsOf k) ps) (joined (leftOf k) ps) (emitted .seen)
+                  unfolding ticked tickBy
+                  works = rw (goes-on time rs ws emittedAll emitted (ready Update) (shown .region-is) (rw (shown .number-is) refl)) (updated k (emitted .seen) (shown .first-words) 0 rs 0 false ws width rows (shown .ends-too 0 rs 0 there) reach)
 
-                      goes-on : handedOn form tested ≡ carried (ready Run) ws os
-                      goes-on = onward-is form tested ws os (ready Run) (unchanged .0) (unchanged .1) (unfold formed in rw (held-back, at-end, space, timely, found-0 decoded t .found .number-is) refl)
+                  answers : take (length os) (drop inputWords (emitted .seen)) ≡ joined (answersOf k) ps
+                  unfolding ticked tickBy
+                  answers = ap (λ (n : ℕ). take n (drop inputWords (emitted .seen))) (eqb-true (length os) (rowAnswers * length rs) space) ∙ behind inputWords (emitted .seen) (k .words) (joined (shows k ws) ps) (rowAnswers * length rs) (sight .eight) (shown .first-words) (shown .in-sight)
 
-                      works : Works (ticking k rs ws os) (anyOf (warnsOf k) ps) (joined (leftOf k) ps) (joined (answersOf k) ps)
-                      works = rw (
-                        goes-on,
-                        ← any-same (accepts time) (saidWarning k) (warnsOf k) (warning-same k) ps accept-all,
-                        ← joined-same (accepts time) (leaves k) (leftOf k) (words-same k) ps accept-all,
-                        ← joined-same (accepts time) (saidWords k) (answersOf k) (answers-same k) ps accept-all,
-                      )
-                          (ran k 0 rs 0 0 ws os all (rw (zero-add (length rs)) (eqb-true _ _ space)))
+                  in-order : Said
+                  unfolding tickSaid
+                  in-order = record {
+                    answer = rw (works .number-is, works .row-is, works .warning-is) (accepted _ _ _ (sym number));
+                    region = works .region-is ∙ accepted _ _ _ (sym number);
+                    answers = rw (works .number-is, works .seen-is, le-leb (length os) (rowAnswers * mostRows) (omega (arith, eqb-true (length os) (rowAnswers * length rs) space, rows))) (answers ∙ accepted _ _ _ (sym number));
+                  }
 
-                      said : Said
-                      said = record {
-                        answer = unfold tickSaid in rw (works .number-is, works .row-is, works .warning-is) (accepted _ _ _ (sym number));
-                        region = works .region-is ∙ accepted _ _ _ (sym number);
-                        answers = works .answers-is ∙ accepted _ _ _ (sym number);
-                      }
-
-    -- a tick's two walks give what the sheet's definition says
-    pub tick-is : Said
-    tick-is = ⊎-elim (λ few. ⊎-elim (λ reach. ⊎-elim (λ settles. ⊎-elim (λ fits. ⊎-elim (λ space. ⊎-elim (λ timely. ⊎-elim (λ decoded. ⊎-elim
-        (in-order few reach settles fits space timely decoded)
-        (running-back few reach settles fits space timely decoded) (either (every (onTime time) ps)))
-        (bad-words few reach settles fits space timely) (either (every decodes ps)))
-        (no-time few reach settles fits space) (either (finite time)))
-        (another-space few reach settles fits) (either (eqb (length os) (2 * length rs))))
-        (another-length few reach settles) (either (eqb (length ws) (widthOf rs))))
-        (bad-settings few reach) (either (every settled rs)))
-        (no-such-column few) (either (every inReach rs)))
-        too-few-or-many (either (fewRows (length rs)))
+  -- a tick's three walks give what the sheet's definition says
+  pub tick-is : Said
+  tick-is = ⊎-elim (λ few. ⊎-elim (λ reach. ⊎-elim (λ settles. ⊎-elim (λ fits. ⊎-elim (λ space. ⊎-elim (λ timely. ⊎-elim (λ decoded. ⊎-elim
+      (in-order few reach settles fits space timely decoded)
+      (running-back few reach settles fits space timely decoded) (either (every (onTime time) ps)))
+      (bad-words few reach settles fits space timely) (either (every decodes ps)))
+      (no-time few reach settles fits space) (either (finite time)))
+      (another-space few reach settles fits) (either (eqb (length os) (rowAnswers * length rs))))
+      (another-length few reach settles) (either (eqb (length ws) (widthOf rs))))
+      (bad-settings few reach) (either (every settled rs)))
+      (no-such-column few) (either (every inReach rs)))
+      too-few-or-many (either (fewRows (length rs)))

@@ -13,20 +13,20 @@ use lib.Seq.{take-at, drop-at, take-all, length-take-le, drop-drop}
 use lib.Ieee.{Float}
 use lib.Ieee.Scale.{finite}
 use Rattle.dynamics.specs.Previous.{runsBack}
-use Rattle.dynamics.specs.Answer.{refusalOf, formRefusal, laterRefusal}
-use Rattle.dynamics.specs.Machine.{Machine, sized, startRefusal, tickRefusal, stateRefusal, updateAnswer}
+use Rattle.dynamics.specs.Answer.{refusalOf, formRefusal}
+use Rattle.dynamics.specs.Machine.{Machine, sized, startRefusal, tickRefusal, updateAnswer}
 use Rattle.dynamics.proofs.Accepted.{accepted, all-passed}
-use Rattle.dynamics.proofs.Calls.{tick-2, form-right}
+use Rattle.dynamics.proofs.Calls.{tick-2}
 use Rattle.blocks.specs.Block.{machineOf, inputsOf, ticked}
 use Rattle.blocks.specs.declared.block.Tick.{Tick}
 use Rattle.blocks.proofs.Lengths.{started-length, updated-length}
 use Rattle.sheet.specs.Rows.{wide, widthOf, Placed, placed, every, anyOf, firstFailing, joined}
-use Rattle.sheet.specs.Sheet.{fewRows, inReach, settled, decodes, onTime, startNumber, tickNumber, rowAtFault, startRow, startsOn, rowTick, answersOf, leftOf, tickSaid, tickLeft, SheetStarted, SheetTicked}
-use Rattle.sheet.specs.Single.{At, nowHas, StartsSingly, TicksSingly, sheetAfter, AllAccepted, singlyAfter, ownStart, ownNumber, Topmost}
+use Rattle.sheet.specs.Sheet.{rowAnswers, fewRows, inReach, settled, decodes, onTime, startNumber, tickNumber, rowAtFault, startRow, startsOn, tickBy, rowTick, answersOf, leftOf, tickSaid, SheetStarted, SheetTicked}
+use Rattle.sheet.specs.Single.{At, nowHas, StartsSingly, TicksSingly, ownStart, ownNumber, Topmost}
 use Rattle.sheet.specs.declared.row.Row.{Row}
 use Rattle.sheet.specs.declared.row.SheetAnswer.{SheetAnswer}
 use Rattle.sheet.proofs.Stretches.{both, either}
-use Rattle.sheet.proofs.Admission.{accepts, all-accept}
+use Rattle.sheet.proofs.Admission.{fitting, all-fit, gives-6, not-6, gives-7, gives-0, accepts, all-accept}
 
 -- ---- what stands at a place
 every-at : {A : Type 0} (q : A → Bool) (n : ℕ) (x : A) (xs : List A) → At n x xs → every q xs ≡ true → q x ≡ true
@@ -85,7 +85,7 @@ module _ (k : Tick) (rs : List Row) (ws os : List ℕ) where
   passed : tickNumber time rs ws os ≡ 0 → Passed
   unfolding tickNumber
   passed z =
-      let (_, s, l, _, t, d, o) = all-passed (fewRows (length rs) && every inReach rs) (every settled rs) (eqb (length ws) (widthOf rs)) (eqb (length os) (2 * length rs)) (finite time) (every decodes ps) (every (onTime time) ps) z in
+      let (_, s, l, _, t, d, o) = all-passed (fewRows (length rs) && every inReach rs) (every settled rs) (eqb (length ws) (widthOf rs)) (eqb (length os) (rowAnswers * length rs)) (finite time) (every decodes ps) (every (onTime time) ps) z in
       record { settles = s; width = sym (eqb-true (length ws) (widthOf rs) l); timely = t; decoded = d; ordered = o }
 
   -- every row's own calls are accepted
@@ -96,10 +96,10 @@ module _ (k : Tick) (rs : List Row) (ws os : List ℕ) where
 
   -- every row's answer words and stretch are those of its block's own calls
   pub tick-singly : (r : SheetAnswer) (left out : List ℕ) → SheetTicked k rs ws os r left out → tickNumber time rs ws os ≡ 0 → (n : ℕ) (p : Placed) → At n p ps → TicksSingly k rs p n left out
-  unfolding ticked rowTick
+  unfolding ticked tickBy
   tick-singly r left out said z n p a = record {
     accepts = tick-accepts z n p a;
-    answers = ap (λ (l : List ℕ). take 2 (drop (2 * n) l)) (said .answers ∙ sym (accepted _ _ _ (sym z))) ∙ two-at (answersOf k) (λ q. refl) n p ps a;
+    answers = ap (λ (l : List ℕ). take rowAnswers (drop (rowAnswers * n) l)) (said .answers ∙ sym (accepted _ _ _ (sym z))) ∙ two-at (answersOf k) (λ q. refl) n p ps a;
     leaves = rw (said .region, ← accepted (joined (leftOf k) ps) ws (tickNumber time rs ws os) (sym z))
         (work-at (leftOf k) (λ q. updated-length (q .row .block) time _ (q .words)) rs ws (passed z .width) n p a);
   }
@@ -107,17 +107,8 @@ module _ (k : Tick) (rs : List Row) (ws os : List ℕ) where
   -- the warning is that some row's own update warns
   pub warns-singly : (r : SheetAnswer) (left out : List ℕ) → SheetTicked k rs ws os r left out → tickNumber time rs ws os ≡ 0
       → r .warning ≡ anyOf (λ p. updateAnswer (machineOf (p .row .block)) time (inputsOf (rowTick k (p .row))) (p .words) .warning) ps
-  unfolding ticked rowTick tickSaid
+  unfolding ticked tickBy tickSaid
   warns-singly r left out said z = ap (λ (a : SheetAnswer). a .warning) (said .answer ∙ sym (accepted _ _ _ (sym z)))
-
--- ---- many accepted ticks: each row's stretch is what its block, run singly on them, leaves
-pub run-singly : (rs : List Row) (os ws : List ℕ) (ks : List Tick) → AllAccepted rs os ws ks → (n : ℕ) (p : Placed) → At n p (placed rs ws)
-    → At n (nowHas p (singlyAfter (p .row) (p .words) ks)) (placed rs (sheetAfter rs os ws ks))
-unfolding AllAccepted singlyAfter sheetAfter
-run-singly rs os ws [] all n p a = a
-run-singly rs os ws (k ∷ ks) all n p a =
-    run-singly rs os (tickLeft k rs ws os) ks (all .1) n _
-    (tick-singly k rs ws os _ _ _ (record { answer = refl; region = refl; answers = refl }) (all .0) n p a .leaves)
 
 -- ---- an accepted start
 -- the row's block accepts a start on its own stretch
@@ -198,7 +189,7 @@ tells true true true true true true true = tt
 module _ (time : Float) (rs : List Row) (ws os : List ℕ) where
   told : (m : ℕ) → tickNumber time rs ws os ≡ m → Tells m (every settled rs) (eqb (length ws) (widthOf rs)) (finite time) (every decodes (placed rs ws)) (every (onTime time) (placed rs ws))
   unfolding tickNumber
-  told m e = rw e at (tells (fewRows (length rs) && every inReach rs) (every settled rs) (eqb (length ws) (widthOf rs)) (eqb (length os) (2 * length rs)) (finite time) (every decodes (placed rs ws)) (every (onTime time) (placed rs ws)))
+  told m e = rw e at (tells (fewRows (length rs) && every inReach rs) (every settled rs) (eqb (length ws) (widthOf rs)) (eqb (length os) (rowAnswers * length rs)) (finite time) (every decodes (placed rs ws)) (every (onTime time) (placed rs ws)))
 
 -- a test of rows, seen on the rows with their stretches
 module _ (q : Row → Bool) where
@@ -243,36 +234,24 @@ module _ (time : Float) (rs : List Row) (ws os : List ℕ) where
   own-2 e = rw (← first-placed settled rs ws) (topmost (ownNumber time) 2 (λ p. settled (p .row)) (placed rs ws) (every-placed settled rs ws ∙ told time rs ws os 2 e)
       (λ n p a f. tick-2 (machineOf (p .row .block)) f time (p .words)) (λ n p a t. not-2 (machineOf (p .row .block)) time (p .words) t))
 
-  -- with the settings accepted, the lengths right and the time finite a row's own number is told by its words alone
-  module _ (settles : every settled rs ≡ true) (fits : eqb (length ws) (widthOf rs) ≡ true) (timely : finite time ≡ true) where
-    all-sized : (rs : List Row) (ws : List ℕ) → widthOf rs ≡ length ws → every (λ p. sized (machineOf (p .row .block)) (p .words)) (placed rs ws) ≡ true
-    unfolding every widthOf placed
-    all-sized [] ws all = refl
-    all-sized (r ∷ rs) ws all =
-        let l : length (take (wide r) ws) ≡ wide r = length-take-le (wide r) ws (omega (arith, all)) in
-        rw (eq-eqb (length (take (wide r) ws)) (wide r) l) (all-sized rs (drop (wide r) ws) (omega (arith, all, length-drop (wide r) ws)))
-
-    by-words : (n : ℕ) (p : Placed) → At n p (placed rs ws) → ownNumber time p ≡ stateRefusal (machineOf (p .row .block)) time (p .words)
-    by-words n p a = form-right (machineOf (p .row .block)) time (p .words)
-        (every-at (λ p. settled (p .row)) n p (placed rs ws) a (every-placed settled rs ws ∙ settles))
-        (every-at (λ p. sized (machineOf (p .row .block)) (p .words)) n p (placed rs ws) a (all-sized rs ws (sym (eqb-true (length ws) (widthOf rs) fits)))) timely
+  -- where the settings are accepted, the lengths right and the time finite
+  fit-at : every settled rs ≡ true → eqb (length ws) (widthOf rs) ≡ true → (n : ℕ) (p : Placed) → At n p (placed rs ws) → fitting p ≡ true
+  fit-at s l n p a = every-at fitting n p (placed rs ws) a (all-fit rs ws (sym (eqb-true (length ws) (widthOf rs) l)) s)
 
   pub own-6 : tickNumber time rs ws os ≡ 6 → Topmost (ownNumber time) 6 (rowAtFault 6 time rs ws) (placed rs ws)
-  unfolding rowAtFault stateRefusal laterRefusal refusalOf
+  unfolding rowAtFault
   own-6 e =
       let (s, l, t, d) = told time rs ws os 6 e in
-      topmost (ownNumber time) 6 decodes (placed rs ws) d (λ n p a f. by-words s l t n p a ∙ simp f) (λ n p a y z. six-not (onTime time p) (sym (by-words s l t n p a ∙ simp y) ∙ z))
-    where
-      six-not : (o : Bool) → refusalOf true true true true true true o ≡ 6 → ⊥
-      six-not true z = unfold refusalOf in omega (arith, z)
-      six-not false z = unfold refusalOf in omega (arith, z)
+      topmost (ownNumber time) 6 decodes (placed rs ws) d (λ n p a f. gives-6 time t p (fit-at s l n p a) f)
+      (λ n p a y z. ⊎-elim (λ e. omega (arith, e, z)) (λ h. omega (arith, h, z)) (not-6 time t p (fit-at s l n p a) y))
 
   pub own-7 : tickNumber time rs ws os ≡ 7 → Topmost (ownNumber time) 7 (rowAtFault 7 time rs ws) (placed rs ws)
-  unfolding rowAtFault stateRefusal laterRefusal refusalOf
+  unfolding rowAtFault
   own-7 e =
       let (s, l, t, d, o) = told time rs ws os 7 e in
       let well : (n : ℕ) (p : Placed) → At n p (placed rs ws) → decodes p ≡ true = λ n p a. every-at decodes n p (placed rs ws) a d in
-      topmost (ownNumber time) 7 (onTime time) (placed rs ws) o (λ n p a f. by-words s l t n p a ∙ simp (well n p a, f)) (λ n p a y z. let none : stateRefusal (machineOf (p .row .block)) time (p .words) ≡ 0 = simp (well n p a, y) in omega (arith, by-words s l t n p a, none, z))
+      topmost (ownNumber time) 7 (onTime time) (placed rs ws) o (λ n p a f. gives-7 time t p (fit-at s l n p a) (well n p a) f)
+      (λ n p a y z. omega (arith, gives-0 time t p (fit-at s l n p a) (well n p a) y, z))
 
 -- ---- a sheet of one row has its block's number
 module _ (r : Row) (ws : List ℕ) (reach : inReach r ≡ true) where

@@ -3,7 +3,7 @@ use Prim.Native.Nat.{ℕ, _*_}
 use mathlib.Core.Path.{_≡_}
 use mathlib.Core.Bool.{Bool, false, not, _&&_, cond}
 use mathlib.Core.List.{List, [], _∷_}
-use lib.Dec.{eqb, ltb}
+use lib.Dec.{eqb, ltb, leb}
 use lib.ListN.{length, getD}
 use lib.Ieee.{Float}
 use lib.Ieee.Scale.{finite}
@@ -17,14 +17,24 @@ use Rattle.sheet.specs.declared.row.Row.{Row}
 use Rattle.sheet.specs.declared.row.SheetAnswer.{SheetAnswer}
 use Rattle.sheet.specs.Rows.{widthOf, Placed, placed, every, anyOf, firstFailing, joined}
 
+-- ---- the sheet's numbers: the most rows, the input words of a tick, and the answer words of a row
+abbrev pub mostRows : ℕ
+mostRows = 16
+
+abbrev pub inputWords : ℕ
+inputWords = 8
+
+abbrev pub rowAnswers : ℕ
+rowAnswers = 2
+
 -- ---- the tests, each over all rows
 
--- 1: 1 to 16 rows, and no column above 7
+-- 1: 1 to 16 rows, and each column names an input word
 abbrev pub fewRows : ℕ → Bool
-fewRows n = ltb 0 n && ltb n 17
+fewRows n = leb 1 n && leb n mostRows
 
 abbrev pub inReach : Row → Bool
-inReach r = ltb (r .first) 8 && (ltb (r .second) 8 && ltb (r .third) 8)
+inReach r = ltb (r .first) inputWords && (ltb (r .second) inputWords && ltb (r .third) inputWords)
 
 -- 2: a row's settings
 abbrev pub settled : Row → Bool
@@ -43,7 +53,7 @@ startNumber rs ws = refusalOf (fewRows (length rs) && every inReach rs) (every s
 
 unfoldable pub tickNumber : Float → List Row → List ℕ → List ℕ → ℕ
 tickNumber time rs ws os =
-    refusalOf (fewRows (length rs) && every inReach rs) (every settled rs) (eqb (length ws) (widthOf rs)) (eqb (length os) (2 * length rs))
+    refusalOf (fewRows (length rs) && every inReach rs) (every settled rs) (eqb (length ws) (widthOf rs)) (eqb (length os) (rowAnswers * length rs))
     (finite time) (every decodes (placed rs ws)) (every (onTime time) (placed rs ws))
 
 -- the row at fault: for 2, 6 and 7 the topmost, else 0
@@ -77,12 +87,16 @@ pub record SheetStarted (rs : List Row) (ws : List ℕ) (r : SheetAnswer) (left 
   pub region : left ≡ startLeft rs ws
 
 -- ---- a tick: all rows emit on the words that stand there, then all update
--- a row's tick: the words that its columns name are its inputs
-unfoldable pub rowTick : Tick → Row → Tick
-rowTick k r = record {
-  time = k .time;
-  words = getD (k .words) (r .first) 0 ∷ getD (k .words) (r .second) 0 ∷ getD (k .words) (r .third) 0 ∷ 0 ∷ 0 ∷ 0 ∷ 0 ∷ 0 ∷ [];
+-- a row's own tick: of these words its columns name its inputs
+unfoldable pub tickBy : Float → List ℕ → Row → Tick
+tickBy time ws r = record {
+  time = time;
+  words = getD ws (r .first) 0 ∷ getD ws (r .second) 0 ∷ getD ws (r .third) 0 ∷ 0 ∷ 0 ∷ 0 ∷ 0 ∷ 0 ∷ [];
 }
+
+-- they are the tick's
+abbrev pub rowTick : Tick → Row → Tick
+rowTick k r = tickBy (k .time) (k .words) r
 
 -- the row's block run singly on its own stretch
 abbrev pub rowTicked : Tick → Placed → Ticked

@@ -1,14 +1,18 @@
 -- What "a sheet equals its blocks run singly" says. Definitions only.
 use Prim.Native.Nat.{ℕ, zero, suc, _*_, _<_}
 use mathlib.Core.Path.{_≡_}
-use mathlib.Core.List.{List, [], _∷_}
+use mathlib.Core.List.{List, [], _∷_, _++_, map}
+use lib.Dec.{T}
 use lib.ListN.{take, drop}
-use lib.Ieee.{Float}
-use Rattle.dynamics.specs.Machine.{startRefusal, tickRefusal, startedWords, emitAnswer, updatedWords}
+use lib.Ieee.{Float, binary64, fits}
+use Rattle.dynamics.specs.Answer.{accept}
+use Rattle.dynamics.specs.Machine.{startRefusal, tickRefusal, startedWords, emitAnswer, updatedWords, Call, ticks, Seen, run, leftAfter}
+use Rattle.dynamics.specs.Machine as Machine
 use Rattle.blocks.specs.Block.{machineOf, inputsOf, answerWords}
+use Rattle.blocks.specs.declared.block.Block.{Block}
 use Rattle.blocks.specs.declared.block.Tick.{Tick}
 use Rattle.sheet.specs.Rows.{Placed, placed}
-use Rattle.sheet.specs.Sheet.{tickNumber, rowTick, twoWords, tickLeft}
+use Rattle.sheet.specs.Sheet.{rowAnswers, tickNumber, rowTick, twoWords, tickLeft, tickAnswers}
 use Rattle.sheet.specs.declared.row.Row.{Row}
 
 -- x stands at place n of a list, from 0
@@ -29,21 +33,64 @@ pub record StartsSingly (rs : List Row) (p : Placed) (n : ℕ) (left : List ℕ)
 -- row n after an accepted tick: its block's own emit and update are accepted, its two answer words are those of the emit, and its stretch is what the update leaves
 pub record TicksSingly (k : Tick) (rs : List Row) (p : Placed) (n : ℕ) (left out : List ℕ) : Type 0 where
   pub accepts : tickRefusal (machineOf (p .row .block)) (k .time) (p .words) ≡ 0
-  pub answers : take 2 (drop (2 * n) out) ≡ twoWords (answerWords (p .row .block) (emitAnswer (machineOf (p .row .block)) (k .time) (inputsOf (rowTick k (p .row))) (p .words)))
+  pub answers : take rowAnswers (drop (rowAnswers * n) out) ≡ twoWords (answerWords (p .row .block) (emitAnswer (machineOf (p .row .block)) (k .time) (inputsOf (rowTick k (p .row))) (p .words)))
   pub leaves : At n (nowHas p (updatedWords (machineOf (p .row .block)) (k .time) (inputsOf (rowTick k (p .row))) (p .words))) (placed rs left)
 
--- ---- many ticks: the region after them, if all are accepted; and the words of a row's block that is run singly on the same ticks
-unfoldable pub sheetAfter : List Row → (space ws : List ℕ) → List Tick → List ℕ
-sheetAfter rs os ws [] = ws
-sheetAfter rs os ws (k ∷ ks) = sheetAfter rs os (tickLeft k rs ws os) ks
+-- ---- any ticks of a sheet, refused ones too
+-- a tick that a call brings: its time is an f64
+pub record Brought : Type 0 where
+  pub tick : Tick
+  pub is-f64 : T (fits binary64 (tick .time))
 
-unfoldable pub AllAccepted : List Row → (space ws : List ℕ) → List Tick → Type 0
-AllAccepted rs os ws [] = Unit {0}
-AllAccepted rs os ws (k ∷ ks) = (tickNumber (k .time) rs ws os ≡ 0) × AllAccepted rs os (tickLeft k rs ws os) ks
+-- the row's own tick, as a call of its block
+abbrev pub ownTick : Brought → Row → Machine.Tick
+ownTick k r = record { time = k .tick .time; is-f64 = k .is-f64; inputs = inputsOf (rowTick (k .tick) r) }
 
-unfoldable pub singlyAfter : Row → List ℕ → List Tick → List ℕ
-singlyAfter r w [] = w
-singlyAfter r w (k ∷ ks) = singlyAfter r (updatedWords (machineOf (r .block)) (k .time) (inputsOf (rowTick k r)) w) ks
+-- what is seen of a row at an accepted tick: its two answer words, and the stretch that it leaves
+pub record RowSeen : Type 0 where
+  pub answers : List ℕ
+  pub stretch : List ℕ
+
+unfoldable pub stretchOf : ℕ → List Placed → List ℕ
+stretchOf n [] = []
+stretchOf zero (p ∷ ps) = p .words
+stretchOf (suc n) (p ∷ ps) = stretchOf n ps
+
+module _ (rs : List Row) (space : List ℕ) where
+  -- the region after the ticks: a refused one changes nothing
+  unfoldable pub sheetAfter : List ℕ → List Brought → List ℕ
+  sheetAfter ws [] = ws
+  sheetAfter ws (k ∷ ks) = sheetAfter (tickLeft (k .tick) rs ws space) ks
+
+  -- this, if the sheet accepts the tick
+  abbrev ifAccepted : {X : Type 0} → Brought → List ℕ → X → List X
+  ifAccepted k ws x = accept (tickNumber (k .tick .time) rs ws space) (x ∷ []) []
+
+  -- the calls that a row's block received: a whole tick for each one that the sheet accepted
+  unfoldable pub received : Row → List ℕ → List Brought → List Call
+  received r ws [] = []
+  received r ws (k ∷ ks) = ifAccepted k ws (ticks (ownTick k r)) ++ received r (tickLeft (k .tick) rs ws space) ks
+
+  -- and what was seen of row n then
+  abbrev pub seenAt : ℕ → Brought → List ℕ → RowSeen
+  seenAt n k ws = record { answers = take rowAnswers (drop (rowAnswers * n) (tickAnswers (k .tick) rs ws space)); stretch = stretchOf n (placed rs (tickLeft (k .tick) rs ws space)) }
+
+  unfoldable pub seenOf : ℕ → List ℕ → List Brought → List RowSeen
+  seenOf n ws [] = []
+  seenOf n ws (k ∷ ks) = ifAccepted k ws (seenAt n k ws) ++ seenOf n (tickLeft (k .tick) rs ws space) ks
+
+-- a call of a block, shown as a row's
+abbrev pub shownAs : Block → Seen → RowSeen
+shownAs b s = record { answers = twoWords (answerWords b (s .answer)); stretch = s .left }
+
+-- A sheet's row over any ticks: its block, run singly on the calls that the row received, shows all that is seen of the row and leaves its stretch.
+module _ (rs : List Row) (space ws : List ℕ) (n : ℕ) (p : Placed) (ks : List Brought) where
+  abbrev pub calls : List Call
+  calls = received rs space (p .row) ws ks
+
+  pub record RunsSingly : Type 0 where
+    pub shows : seenOf rs space n ws ks ≡ map (shownAs (p .row .block)) (run (machineOf (p .row .block)) (p .words) calls)
+    pub leaves : stretchOf n (placed rs (sheetAfter rs space ws ks)) ≡ leftAfter (machineOf (p .row .block)) (p .words) calls
 
 -- ---- the row at fault
 -- the number that a row's block, run singly on its own stretch, gives for a start and for a tick

@@ -1,9 +1,10 @@
 -- A sheet whose rows come by value. Definitions only.
-use Prim.Native.Nat.{ℕ}
+use Prim.Native.Nat.{ℕ, _+_}
 use mathlib.Core.Bool.{cond}
 use mathlib.Core.List.{List}
 use lib.Dec.{ltb}
 use lib.ListN.{take}
+use Rattle.sheet.specs.Sheet.{mostRows}
 use Rattle.sheet.specs.declared.row.Row.{Row}
 use Rattle.sheet.specs.declared.table.Table.{Table}
 
@@ -11,6 +12,10 @@ use Rattle.sheet.specs.declared.table.Table.{Table}
 abbrev pub rowsOf : Table → List Row
 rowsOf t = take (t .count) (t .rows)
 
--- a count that stays within seventeen places
+-- the places of a table: one more than a sheet may have rows
+abbrev pub tableRows : ℕ
+tableRows = mostRows + 1
+
+-- a count that stays within them
 abbrev pub clipped : ℕ → ℕ
-clipped count = cond (ltb 17 count) 17 count
+clipped count = cond (ltb tableRows count) tableRows count

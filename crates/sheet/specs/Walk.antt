@@ -1,34 +1,30 @@
 -- How a sheet's code goes: walks over its rows, each with one thing to do on every row. What the private functions' contracts say. Definitions only.
-use Prim.Native.Nat.{ℕ, _+_, _*_, _/_}
+use Prim.Native.Nat.{ℕ, _+_, _-_, _*_}
 use mathlib.Core.Path.{_≡_}
-use mathlib.Core.Bool.{Bool, not, _&&_, cond}
+use mathlib.Core.Bool.{Bool, false, not, _&&_, _||_, cond}
 use mathlib.Core.List.{List, [], _∷_, _++_}
 use lib.Dec.{eqb, ltb, leb}
-use lib.ListN.{length, take, drop, set, replicate}
+use lib.ListN.{length, take, drop, set, getD, replicate}
 use lib.Ieee.{Float}
 use lib.Ieee.Scale.{finite}
-use Rattle.reals.specs.Words.{0·0}
-use Rattle.dynamics.specs.Machine.{lengthAnswer, startedWords, stateRefusal}
-use Rattle.dynamics.specs.declared.call.Inputs.{Inputs}
+use Rattle.dynamics.specs.Machine.{lengthAnswer, startedWords, emitAnswer, updateAnswer, updatedWords}
 use Rattle.blocks.specs.Block.{machineOf, answerWords, inputsOf}
 use Rattle.blocks.specs.declared.block.OutputWords.{OutputWords}
 use Rattle.blocks.specs.declared.block.Tick.{Tick}
-use Rattle.blocks.specs.Admitted.{admittedSaid, admittedLeft}
-use Rattle.sheet.specs.Rows.{wide}
-use Rattle.sheet.specs.Sheet.{fewRows, inReach, rowTick}
+use Rattle.sheet.specs.Sheet.{mostRows, inputWords, rowAnswers, fewRows, inReach, tickBy}
 use Rattle.sheet.specs.declared.row.Row.{Row}
 use Rattle.sheet.specs.declared.row.SheetAnswer.{SheetAnswer}
 use Rattle.sheet.specs.declared.walk.Phase.{Phase}
-use Rattle.sheet.specs.declared.walk.Phase.the-variants.{Survey, Start, Examine, Run, Refused}
+use Rattle.sheet.specs.declared.walk.Phase.the-variants.{Survey, Start, Emit, Update, Refused}
 use Rattle.sheet.specs.declared.walk.Walk.{Walk}
 
 -- ---- a walk between rows
 -- ahead of the first row, and one that is refused
 abbrev pub ready : Phase → Walk
-ready p = record { phase = p; refusal = 0; row = 0; at = 0; warnings = 0 }
+ready p = record { phase = p; refusal = 0; row = 0; at = 0; warning = false }
 
 abbrev pub refusedWalk : ℕ → ℕ → Walk
-refusedWalk n row = record { phase = Refused; refusal = n; row = row; at = 0; warnings = 0 }
+refusedWalk n row = record { phase = Refused; refusal = n; row = row; at = 0; warning = false }
 
 -- a fault of this number in row n is noted, unless one of this number or a lower one was
 abbrev pub isNew : Walk → ℕ → Bool
@@ -40,108 +36,125 @@ noted w number n = record {
   refusal = cond (isNew w number) number (w .refusal);
   row = cond (isNew w number) n (w .row);
   at = w .at;
-  warnings = w .warnings;
+  warning = w .warning;
 }
 
 -- past a row's words, and with what its update said
 abbrev pub movedTo : Walk → ℕ → Walk
-movedTo w end = record { phase = w .phase; refusal = w .refusal; row = w .row; at = end; warnings = w .warnings }
+movedTo w end = record { phase = w .phase; refusal = w .refusal; row = w .row; at = end; warning = w .warning }
 
 abbrev pub warned : Walk → Bool → Walk
-warned w b = record { phase = w .phase; refusal = w .refusal; row = w .row; at = w .at; warnings = cond b 1 (w .warnings) }
+warned w b = record { phase = w .phase; refusal = w .refusal; row = w .row; at = w .at; warning = w .warning || b }
 
 -- ---- a row's turn
 -- all that a walk carries from row to row
 pub record Carried : Type 0 where
   pub found : Walk
   pub region : List ℕ
-  pub answers : List ℕ
+  pub seen : List ℕ
 
 abbrev pub carried : Walk → List ℕ → List ℕ → Carried
-carried w ws os = record { found = w; region = ws; answers = os }
+carried w ws os = record { found = w; region = ws; seen = os }
 
--- n words from `at`, and the region with others in their place
+-- a row's stretch, from where the row above ended up to its own end, and the region with other words in its place
 abbrev pub stretch : ℕ → ℕ → List ℕ → List ℕ
-stretch at n ws = take n (drop at ws)
+stretch at end ws = take (end - at) (drop at ws)
 
 abbrev pub putAt : ℕ → ℕ → List ℕ → List ℕ → List ℕ
-putAt at n ws ys = take at ws ++ (ys ++ drop n (drop at ws))
+putAt at end ws ys = take at ws ++ (ys ++ drop (end - at) (drop at ws))
 
--- tests 1 and 2, that the row's words lie in a region of so many, and then this
-abbrev pub lookedAt : ℕ → ℕ → Row → Walk → Walk → Walk
-lookedAt len n r w then =
-    let l = lengthAnswer (machineOf (r .block)) in
-    cond (inReach r) (cond (eqb (l .refusal) 0) (cond (leb (w .at + l .length) len) then (noted w 3 0)) (noted w (l .refusal) n)) (refusedWalk 1 0)
+-- a row's work on its stretch, if the words are there
+abbrev pub works : ℕ → Carried → Carried → Carried
+works end c done = cond (leb (c .found .at) end && leb end (length (c .region))) done c
 
--- the end of its words
+-- the words that a tick keeps of its own: its inputs, the answers of as many rows as there may be, and then where each row's words end
+abbrev pub endsAt : ℕ
+endsAt = inputWords + rowAnswers * mostRows
+
+abbrev pub ownWords : ℕ
+ownWords = endsAt + mostRows
+
+-- row n's two answer words, behind the inputs and the answers of the rows above it, and where its words end; if there is room for them
+abbrev pub hasRoom : ℕ → List ℕ → Bool
+hasRoom n seen = ltb n mostRows && eqb (length seen) ownWords
+
+abbrev pub putTwo : ℕ → OutputWords → List ℕ → List ℕ
+putTwo n two seen =
+    let at = inputWords + rowAnswers * n in
+    cond (hasRoom n seen) (set (set seen at (two .first)) (at + 1) (two .second)) seen
+
+abbrev pub putEnd : ℕ → ℕ → List ℕ → List ℕ
+putEnd n end seen = cond (hasRoom n seen) (set seen (endsAt + n) end) seen
+
+abbrev pub endIn : List ℕ → ℕ → ℕ
+endIn seen n = cond (ltb n mostRows) (getD seen (endsAt + n) 0) 0
+
+-- the end of a row's words by its block's length
 abbrev pub endOf : Row → Walk → ℕ
 endOf r w = w .at + lengthAnswer (machineOf (r .block)) .length
 
+-- by the first that is wrong: a column, the settings, that the row's words lie in a region of so many
+abbrev pub lookedAt : {X : Type 0} → ℕ → Row → Walk → (column settings words : X) → X → X
+lookedAt len r w column settings words right =
+    cond (inReach r) (cond (eqb (lengthAnswer (machineOf (r .block)) .refusal) 0) (cond (leb (endOf r w) len) right words) settings) column
+
+-- a survey: tests 1 and 2, and of test 3 that the words are there; where they end is noted
 unfoldable pub surveyedRow : ℕ → ℕ → Row → Walk → Walk
-surveyedRow len n r w = lookedAt len n r w (movedTo w (endOf r w))
+surveyedRow len n r w = lookedAt len r w (refusedWalk 1 0) (noted w (lengthAnswer (machineOf (r .block)) .refusal) n) (noted w 3 0) (movedTo w (endOf r w))
 
--- tests 6 and 7 too
-unfoldable pub examinedRow : Float → ℕ → Row → List ℕ → Walk → Walk
-examinedRow time n r ws w =
-    let s = stateRefusal (machineOf (r .block)) time (stretch (w .at) (lengthAnswer (machineOf (r .block)) .length) ws) in
-    lookedAt (length ws) n r w (movedTo (noted w s n) (endOf r w))
+unfoldable pub surveyedEnds : ℕ → ℕ → Row → Walk → List ℕ → List ℕ
+surveyedEnds len n r w seen = lookedAt len r w seen seen seen (putEnd n (endOf r w) seen)
 
--- the inputs that its columns name
-abbrev pub rowInputs : Tick → Row → Inputs
-rowInputs k r = inputsOf (rowTick k r)
-
--- a row's work on so many words, if they are there
-abbrev pub works : ℕ → Carried → Carried → Carried
-works size c done = cond (leb (c .found .at + size) (length (c .region))) done c
-
--- row n's two answer words, if there is room for them
-abbrev pub putTwo : ℕ → OutputWords → List ℕ → List ℕ
-putTwo n two os = cond (ltb n (length os / 2)) (set (set os (2 * n) (two .first)) (2 * n + 1) (two .second)) os
-
--- a tick that was admitted
-unfoldable pub ranRow : Tick → ℕ → Row → Carried → Carried
-ranRow k n r c =
+-- an emit: its refusal is noted, and its answer words come into sight
+unfoldable pub emittedRow : Float → ℕ → Row → Carried → Carried
+emittedRow time n r c =
     let w = c .found in
-    let own = stretch (w .at) (wide r) (c .region) in
-    let a = admittedSaid (r .block) (k .time) (rowInputs k r) own in
-    let two = answerWords (r .block) a in
-    works (wide r) c
-    (carried (movedTo (warned w (a .warning)) (w .at + wide r))
-    (putAt (w .at) (wide r) (c .region) (admittedLeft (r .block) (k .time) (rowInputs k r) own))
-    (putTwo n two (c .answers)))
+    let end = endIn (c .seen) n in
+    let a = emitAnswer (machineOf (r .block)) time (inputsOf (tickBy time (c .seen) r)) (stretch (w .at) end (c .region)) in
+    works end c (carried (movedTo (noted w (a .refusal) n) end) (c .region) (putTwo n (answerWords (r .block) a) (c .seen)))
+
+-- an update
+unfoldable pub updatedRow : Float → ℕ → Row → Carried → Carried
+updatedRow time n r c =
+    let w = c .found in
+    let end = endIn (c .seen) n in
+    let i = inputsOf (tickBy time (c .seen) r) in
+    let own = stretch (w .at) end (c .region) in
+    works end c
+    (carried (movedTo (warned w (updateAnswer (machineOf (r .block)) time i own .warning)) end)
+    (putAt (w .at) end (c .region) (updatedWords (machineOf (r .block)) time i own)) (c .seen))
 
 -- a fresh start
 unfoldable pub startedRow : Row → Carried → Carried
 startedRow r c =
     let w = c .found in
-    let long = lengthAnswer (machineOf (r .block)) .length in
-    works long c
-    (carried (movedTo w (w .at + long)) (putAt (w .at) long (c .region) (startedWords (machineOf (r .block)) (stretch (w .at) long (c .region)))) (c .answers))
+    let end = endOf r w in
+    works end c (carried (movedTo w end) (putAt (w .at) end (c .region) (startedWords (machineOf (r .block)) (stretch (w .at) end (c .region)))) (c .seen))
 
-unfoldable pub turnedIn : Phase → Tick → ℕ → Row → Carried → Carried
-turnedIn Survey k n r c = carried (surveyedRow (length (c .region)) n r (c .found)) (c .region) (c .answers)
-turnedIn Start k n r c = startedRow r c
-turnedIn Examine k n r c = carried (examinedRow (k .time) n r (c .region) (c .found)) (c .region) (c .answers)
-turnedIn Run k n r c = ranRow k n r c
-turnedIn Refused k n r c = c
+unfoldable pub turnedIn : Phase → Float → ℕ → Row → Carried → Carried
+turnedIn Survey time n r c = carried (surveyedRow (length (c .region)) n r (c .found)) (c .region) (surveyedEnds (length (c .region)) n r (c .found) (c .seen))
+turnedIn Start time n r c = startedRow r c
+turnedIn Emit time n r c = emittedRow time n r c
+turnedIn Update time n r c = updatedRow time n r c
+turnedIn Refused time n r c = c
 
-unfoldable pub turned : Tick → ℕ → Row → Carried → Carried
-turned k n r c = turnedIn (c .found .phase) k n r c
+unfoldable pub turned : Float → ℕ → Row → Carried → Carried
+turned time n r c = turnedIn (c .found .phase) time n r c
 
 -- ---- a walk over all rows, of which the first is row n
-unfoldable pub walked : Tick → ℕ → List Row → Carried → Carried
-walked k n [] c = c
-walked k n (r ∷ rs) c = walked k (n + 1) rs (turned k n r c)
+unfoldable pub walked : Float → ℕ → List Row → Carried → Carried
+walked time n [] c = c
+walked time n (r ∷ rs) c = walked time (n + 1) rs (turned time n r c)
 
 -- the contract of a call that carries: what it returns and leaves
 pub record Left (c : Carried) (r : Walk) (ws os : List ℕ) : Type 0 where
   pub found : r ≡ c .found
   pub region : ws ≡ c .region
-  pub answers : os ≡ c .answers
+  pub seen : os ≡ c .seen
 
 -- ---- from one walk to the next
-unfoldable pub begun : ℕ → Phase → Walk
-begun rows p = cond (fewRows rows) (ready p) (refusedWalk 1 0)
+unfoldable pub begun : ℕ → Walk
+begun rows = cond (fewRows rows) (ready Survey) (refusedWalk 1 0)
 
 -- a start: test 3, then the fresh words
 unfoldable pub surveyed : Walk → ℕ → Walk
@@ -150,32 +163,41 @@ surveyed w words =
     (cond (eqb (w .at) words) (ready Start) (refusedWalk 3 0))
     (refusedWalk (w .refusal) (w .row))
 
--- a tick: what was found of 1 to 3, then tests 3, 4 and 5, then what was found of 6 and 7
+-- a tick: tests 3, 4 and 5, then the emits
 unfoldable pub formed : Walk → ℕ → ℕ → ℕ → Float → Walk
 formed w rows words space time =
-    cond (not (eqb (w .refusal) 0) && ltb (w .refusal) 4) (refusedWalk (w .refusal) (w .row))
+    cond (eqb (w .refusal) 0)
     (cond (eqb (w .at) words)
-    (cond (eqb space (2 * rows))
-    (cond (finite time)
-    (cond (eqb (w .refusal) 0) (ready Run) (refusedWalk (w .refusal) (w .row)))
-    (refusedWalk 5 0))
+    (cond (eqb space (rowAnswers * rows))
+    (cond (finite time) (ready Emit) (refusedWalk 5 0))
     (refusedWalk 4 0))
     (refusedWalk 3 0))
+    (refusedWalk (w .refusal) (w .row))
+
+-- what the emits found of 6 and 7, then the updates
+abbrev pub emittedAll : Walk → Walk
+emittedAll w = cond (eqb (w .refusal) 0) (ready Update) (refusedWalk (w .refusal) (w .row))
 
 abbrev pub answerOf : Walk → SheetAnswer
-answerOf w = record { refusal = w .refusal; row = w .row; warning = not (eqb (w .warnings) 0) }
+answerOf w = record { refusal = w .refusal; row = w .row; warning = w .warning }
 
--- ---- a start's two walks, and a tick's
-abbrev pub noTick : Tick
-noTick = record { time = 0·0; words = replicate 8 0 }
+-- ---- a tick's own words: before the first row its inputs, with room for the rest; and what is handed out of them
+pub record InSight (k : Tick) (seen : List ℕ) : Type 0 where
+  pub eight : length (k .words) ≡ inputWords
+  pub words : seen ≡ k .words ++ replicate (rowAnswers * mostRows + mostRows) 0
 
+abbrev pub handedOut : Walk → List ℕ → List ℕ → List ℕ
+handedOut w seen os = cond (eqb (w .refusal) 0 && leb (length os) (rowAnswers * mostRows)) (take (length os) (drop inputWords seen)) os
+
+-- ---- a start's two walks, and a tick's three
 abbrev pub handedOn : (Walk → Walk) → Carried → Carried
-handedOn f c = carried (f (c .found)) (c .region) (c .answers)
+handedOn f c = carried (f (c .found)) (c .region) (c .seen)
 
-abbrev pub starting : List Row → List ℕ → Carried
-starting rs ws = walked noTick 0 rs (handedOn (λ w. surveyed w (length ws)) (walked noTick 0 rs (carried (begun (length rs) Survey) ws [])))
+abbrev pub starting : Float → List Row → List ℕ → Carried
+starting time rs ws = walked time 0 rs (handedOn (λ w. surveyed w (length ws)) (walked time 0 rs (carried (begun (length rs)) ws [])))
 
-abbrev pub ticking : Tick → List Row → List ℕ → List ℕ → Carried
-ticking k rs ws os =
-    walked k 0 rs (handedOn (λ w. formed w (length rs) (length ws) (length os) (k .time))
-    (walked k 0 rs (carried (begun (length rs) Examine) ws os)))
+abbrev pub ticking : Float → List Row → (region seen : List ℕ) → ℕ → Carried
+ticking time rs ws seen space =
+    walked time 0 rs (handedOn emittedAll
+    (walked time 0 rs (handedOn (λ w. formed w (length rs) (length ws) space time)
+    (walked time 0 rs (carried (begun (length rs)) ws seen)))))

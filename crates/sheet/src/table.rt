@@ -3,16 +3,20 @@ use crate::row::Row;
 use crate::row::SheetAnswer;
 use crate::start;
 use crate::tick;
+use crate::walk::MOST_ROWS;
 use blocks::Tick;
 ghost use mathlib.Core.Path.{_≡_};
 ghost use Prim.Native.Nat.{_≤_};
 ghost use lib.ListN.{take};
 ghost use Rattle.sheet.specs.Sheet.{SheetStarted, SheetTicked};
-ghost use Rattle.sheet.specs.Table.{rowsOf, clipped};
+ghost use Rattle.sheet.specs.Table.{tableRows, rowsOf, clipped};
 
-// The first `count` of the rows, or all of them where `count` is larger: one place more than a sheet may have rows shows that there are too many.
+// The places of a table: one more than a sheet may have rows, so that too many are still seen.
+pub const TABLE_ROWS: usize = MOST_ROWS + 1;
+
+// The first `count` of the rows, or all of them where `count` is larger.
 pub struct Table {
-    pub rows: [Row; 17],
+    pub rows: [Row; TABLE_ROWS],
     pub count: usize,
 }
 
@@ -20,15 +24,15 @@ pub struct Table {
 fn clipped(count: usize) -> usize
     ensures { λ r. ⌜ r ≡ clipped count ⌝ }
 {
-    if 17 < count {
-        return 17;
+    if TABLE_ROWS < count {
+        return TABLE_ROWS;
     }
     count
 }
 
 // A start over the first n of the rows, which are lent.
-fn start_first(rows: [Row; 17], n: usize, region: &mut [u64]) -> SheetAnswer
-    requires { ⌜ n ≤ 17 ⌝ }
+fn start_first(rows: [Row; TABLE_ROWS], n: usize, region: &mut [u64]) -> SheetAnswer
+    requires { ⌜ n ≤ tableRows ⌝ }
     ensures { λ r. ⌜ SheetStarted (take n rows) (now (region .entry)) r (now (region .exit)) ⌝ }
 {
     start(&rows[..n], region)
@@ -36,13 +40,13 @@ fn start_first(rows: [Row; 17], n: usize, region: &mut [u64]) -> SheetAnswer
 
 // A tick over the first n of the rows, which are lent.
 fn tick_first(
-    rows: [Row; 17],
+    rows: [Row; TABLE_ROWS],
     n: usize,
     by: Tick,
     region: &mut [u64],
     answers: &mut [u64],
 ) -> SheetAnswer
-    requires { ⌜ n ≤ 17 ⌝ }
+    requires { ⌜ n ≤ tableRows ⌝ }
     ensures { λ r. ⌜ SheetTicked by (take n rows) (now (region .entry)) (now (answers .entry)) r (now (region .exit)) (now (answers .exit)) ⌝ }
 {
     tick(&rows[..n], by, region, answers)

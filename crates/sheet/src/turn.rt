@@ -1,38 +1,43 @@
 // What a walk does on one row, on the row's own stretch of the region.
 use crate::row::Row;
+use crate::walk::COLUMNS;
+use crate::walk::ENDS;
+use crate::walk::INPUT_WORDS;
+use crate::walk::MOST_ROWS;
+use crate::walk::OWN_WORDS;
 use crate::walk::Phase;
+use crate::walk::ROW_ANSWERS;
 use crate::walk::Walk;
 use crate::walk::lies;
 use crate::walk::moved_to;
 use crate::walk::noted;
 use crate::walk::refused;
+use crate::walk::spans;
 use crate::walk::warned;
 use blocks::OutputWords;
 use blocks::Tick;
 use blocks::answer_words;
-use blocks::size_of;
+use blocks::emit;
 use blocks::start;
 use blocks::state_length;
-use blocks::state_refusal;
-use blocks::tick_admitted;
-use dynamics::Inputs;
+use blocks::update;
+use dynamics::word_at;
 ghost use mathlib.Core.Path.{_≡_};
 ghost use mathlib.Core.List.{[]};
-ghost use lib.ListN.{getD};
 ghost use Rattle.dynamics.specs.Region.{Gives};
-ghost use Rattle.sheet.specs.Sheet.{inReach};
-ghost use Rattle.sheet.specs.Walk.{surveyedRow, examinedRow, rowInputs, putTwo, ranRow, startedRow, carried, turned, Left};
+ghost use Rattle.sheet.specs.Sheet.{inReach, tickBy};
+ghost use Rattle.sheet.specs.Walk.{surveyedRow, surveyedEnds, putTwo, putEnd, endIn, emittedRow, updatedRow, startedRow, carried, turned, Left};
 
 // Whether its columns name words of a tick.
 fn in_reach(row: Row) -> bool
     ensures { λ r. ⌜ r ≡ inReach row ⌝ }
 {
-    (row.first < 8) & ((row.second < 8) & (row.third < 8))
+    (row.first < COLUMNS) & ((row.second < COLUMNS) & (row.third < COLUMNS))
 }
 
-// Tests 1 and 2, and that the row's words lie in a region of so many: test 3, but for words left over.
-fn survey_row(walk: Walk, i: usize, row: Row, words: usize) -> Walk
-    ensures { λ r. ⌜ r ≡ surveyedRow words i row walk ⌝ }
+// Tests 1 and 2, and that the row's words lie in a region of so many: test 3, but for words left over. Where they end is noted.
+fn survey_row(walk: Walk, i: usize, row: Row, words: usize, seen: &mut [u64]) -> Walk
+    ensures { λ r. ⌜ Gives (surveyedRow words i row walk) (surveyedEnds words i row walk (now (seen .entry))) r (now (seen .exit)) ⌝ }
 {
     if !in_reach(row) {
         return refused(1, 0);
@@ -45,93 +50,90 @@ fn survey_row(walk: Walk, i: usize, row: Row, words: usize) -> Walk
     if !lies(walk.at, own.length, words) {
         return noted(walk, 3, 0);
     }
-    moved_to(walk, walk.at + own.length)
+    let end = walk.at + own.length;
+    put_end(seen, i, end);
+    moved_to(walk, end)
 }
 
-// The same, and tests 6 and 7 on the row's own words.
-fn examine_row(walk: Walk, i: usize, row: Row, time: f64, region: &[u64]) -> Walk
-    ensures { λ r. ⌜ r ≡ examinedRow time i row (now (region .entry)) walk ⌝ }
+// The row's own tick: of the words in sight its columns name its inputs.
+fn row_tick(time: f64, row: Row, seen: &[u64]) -> Tick
+    ensures { λ r. ⌜ r ≡ tickBy time (now (seen .entry)) row ⌝ }
 {
-    if !in_reach(row) {
-        return refused(1, 0);
+    let first = word_at(seen, row.first as usize);
+    let second = word_at(seen, row.second as usize);
+    let third = word_at(seen, row.third as usize);
+    Tick {
+        time,
+        words: [first, second, third, 0, 0, 0, 0, 0],
     }
-    let block = row.block;
-    let own = state_length(block);
-    if own.refusal != 0 {
-        return noted(walk, own.refusal, i);
-    }
-    let at = walk.at;
-    if !lies(at, own.length, region.len()) {
-        return noted(walk, 3, 0);
-    }
-    let end = at + own.length;
-    let number = state_refusal(block, time, &region[at..end]);
-    moved_to(noted(walk, number, i), end)
 }
 
-// The tick's word that a column names.
-fn word_of_column(tick: Tick, column: u64) -> u64
-    ensures { λ r. ⌜ r ≡ getD (tick .words) column 0 ⌝ }
+// The two answer words of row i, behind the inputs and the answers of the rows above it.
+fn put_answer(seen: &mut [u64], i: usize, two: OutputWords)
+    ensures { λ _. ⌜ now (seen .exit) ≡ putTwo i two (now (seen .entry)) ⌝ }
 {
-    match column {
-        0 => tick.words[0],
-        1 => tick.words[1],
-        2 => tick.words[2],
-        3 => tick.words[3],
-        4 => tick.words[4],
-        5 => tick.words[5],
-        6 => tick.words[6],
-        7 => tick.words[7],
-        _ => 0,
+    if MOST_ROWS <= i {
+        return;
     }
+    if seen.len() != OWN_WORDS {
+        return;
+    }
+    let at = INPUT_WORDS + ROW_ANSWERS * i;
+    seen[at] = two.first;
+    seen[at + 1] = two.second;
 }
 
-// The inputs that its columns name.
-fn row_inputs(tick: Tick, row: Row) -> Inputs
-    ensures { λ r. ⌜ r ≡ rowInputs tick row ⌝ }
+// Where row i's words end.
+fn put_end(seen: &mut [u64], i: usize, end: usize)
+    ensures { λ _. ⌜ now (seen .exit) ≡ putEnd i end (now (seen .entry)) ⌝ }
 {
-    Inputs {
-        first: word_of_column(tick, row.first),
-        second: word_of_column(tick, row.second),
-        third: word_of_column(tick, row.third),
+    if MOST_ROWS <= i {
+        return;
     }
+    if seen.len() != OWN_WORDS {
+        return;
+    }
+    seen[ENDS + i] = end as u64;
 }
 
-// The two answer words of row i, if there is room for them.
-fn put_answer(answers: &mut [u64], i: usize, two: OutputWords)
-    ensures { λ _. ⌜ now (answers .exit) ≡ putTwo i two (now (answers .entry)) ⌝ }
+// The same, as the survey noted it.
+fn end_of(seen: &[u64], i: usize) -> usize
+    ensures { λ r. ⌜ r ≡ endIn (now (seen .entry)) i ⌝ }
 {
-    if i < answers.len() / 2 {
-        answers[2 * i] = two.first;
-        answers[2 * i + 1] = two.second;
+    if MOST_ROWS <= i {
+        return 0;
     }
+    word_at(seen, ENDS + i) as usize
 }
 
-// A whole tick of the row: its tests were made. Words that are not there, which those rule out, are not run.
-fn run_row(
-    walk: Walk,
-    i: usize,
-    row: Row,
-    tick: Tick,
-    region: &mut [u64],
-    answers: &mut [u64],
-) -> Walk
-    ensures { λ r. ⌜ Left (ranRow tick i row (carried walk (now (region .entry)) (now (answers .entry)))) r (now (region .exit)) (now (answers .exit)) ⌝ }
+// The row emits on its own stretch, which is only read.
+fn emit_row(walk: Walk, i: usize, row: Row, time: f64, region: &[u64], seen: &mut [u64]) -> Walk
+    ensures { λ r. ⌜ Left (emittedRow time i row (carried walk (now (region .entry)) (now (seen .entry)))) r (now (region .entry)) (now (seen .exit)) ⌝ }
 {
     let block = row.block;
-    let size = size_of(block);
     let at = walk.at;
-    if !lies(at, size, region.len()) {
+    let end = end_of(&seen[..], i);
+    if !spans(at, end, region.len()) {
         return walk;
     }
-    let end = at + size;
-    let answer = tick_admitted(
-        block,
-        tick.time,
-        row_inputs(tick, row),
-        &mut region[at..end],
-    );
-    put_answer(answers, i, answer_words(block, answer));
+    let tick = row_tick(time, row, &seen[..]);
+    let answer = emit(block, tick, &region[at..end]);
+    put_answer(seen, i, answer_words(block, answer));
+    moved_to(noted(walk, answer.refusal, i), end)
+}
+
+// The row updates on its own stretch, with the inputs that its emit saw.
+fn update_row(walk: Walk, i: usize, row: Row, time: f64, region: &mut [u64], seen: &[u64]) -> Walk
+    ensures { λ r. ⌜ Left (updatedRow time i row (carried walk (now (region .entry)) (now (seen .entry)))) r (now (region .exit)) (now (seen .entry)) ⌝ }
+{
+    let block = row.block;
+    let at = walk.at;
+    let end = end_of(seen, i);
+    if !spans(at, end, region.len()) {
+        return walk;
+    }
+    let tick = row_tick(time, row, seen);
+    let answer = update(block, tick, &mut region[at..end]);
     moved_to(warned(walk, answer.warning), end)
 }
 
@@ -155,18 +157,18 @@ pub(crate) fn turn(
     walk: Walk,
     i: usize,
     row: Row,
-    tick: Tick,
+    time: f64,
     region: &mut [u64],
-    answers: &mut [u64],
+    seen: &mut [u64],
 ) -> Walk
-    ensures { λ r. ⌜ Left (turned tick i row (carried walk (now (region .entry)) (now (answers .entry)))) r (now (region .exit)) (now (answers .exit)) ⌝ }
+    ensures { λ r. ⌜ Left (turned time i row (carried walk (now (region .entry)) (now (seen .entry)))) r (now (region .exit)) (now (seen .exit)) ⌝ }
 {
     let phase = walk.phase;
     match phase {
-        Phase::Survey => survey_row(walk, i, row, region.len()),
+        Phase::Survey => survey_row(walk, i, row, region.len(), seen),
         Phase::Start => start_row(walk, row, region),
-        Phase::Examine => examine_row(walk, i, row, tick.time, &region[..]),
-        Phase::Run => run_row(walk, i, row, tick, region, answers),
+        Phase::Emit => emit_row(walk, i, row, time, &region[..], seen),
+        Phase::Update => update_row(walk, i, row, time, region, &seen[..]),
         Phase::Refused => walk,
     }
 }

@@ -1,33 +1,49 @@
 // A walk over a sheet's rows: what it is for, and what it has found so far.
 use crate::row::SheetAnswer;
 use blocks::Tick;
+use dynamics::store;
 use reals::is_finite;
 ghost use Prim.Native.Nat.{_+_, _*_};
 ghost use mathlib.Core.Path.{_≡_};
+ghost use mathlib.Core.Bool.{_&&_};
 ghost use lib.Dec.{eqb, leb};
-ghost use Rattle.sheet.specs.declared.walk.Phase.the-variants.{Survey, Examine};
-ghost use Rattle.sheet.specs.Walk.{ready, refusedWalk, noted, movedTo, warned, begun, surveyed, formed, answerOf, noTick};
+ghost use Rattle.dynamics.specs.Region.{Gives};
+ghost use Rattle.sheet.specs.Walk.{ready, refusedWalk, noted, movedTo, warned, begun, surveyed, formed, emittedAll, answerOf, InSight, handedOut};
 
 // What a walk does on each row. One that was refused goes by every row.
 pub enum Phase {
     Survey,
     Start,
-    Examine,
-    Run,
+    Emit,
+    Update,
     Refused,
 }
 
-// The refusal number and the row at fault so far, where the next row's words begin, and 1 if any row warned, else 0.
+// The refusal number and the row at fault so far, where the next row's words begin, and whether any row warned.
 pub struct Walk {
     pub phase: Phase,
     pub refusal: u64,
     pub row: usize,
     pub at: usize,
-    pub warnings: u64,
+    pub warning: bool,
 }
 
 // The most rows that a sheet has.
-const MOST_ROWS: usize = 16;
+pub(crate) const MOST_ROWS: usize = 16;
+
+// The input words of a tick, and the answer words of a row.
+pub(crate) const INPUT_WORDS: usize = 8;
+
+pub(crate) const ROW_ANSWERS: usize = 2;
+
+// A column is below this: it names an input word.
+pub(crate) const COLUMNS: u64 = INPUT_WORDS as u64;
+
+// A tick keeps words of its own: its inputs, the answers of as many rows as there may be, and from here on where each row's words end.
+pub(crate) const ENDS: usize = INPUT_WORDS + ROW_ANSWERS * MOST_ROWS;
+
+// All of them.
+pub(crate) const OWN_WORDS: usize = ENDS + MOST_ROWS;
 
 // Ahead of the first row.
 pub(crate) fn ready(phase: Phase) -> Walk
@@ -38,7 +54,7 @@ pub(crate) fn ready(phase: Phase) -> Walk
         refusal: 0,
         row: 0,
         at: 0,
-        warnings: 0,
+        warning: false,
     }
 }
 
@@ -78,6 +94,13 @@ pub(crate) fn lies(at: usize, n: usize, len: usize) -> bool
     n <= len - at
 }
 
+// Whether the words from `at` up to `end` are there, in a region of so many.
+pub(crate) fn spans(at: usize, end: usize, len: usize) -> bool
+    ensures { λ r. ⌜ r ≡ (leb at end && leb end len) ⌝ }
+{
+    (at <= end) & (end <= len)
+}
+
 // Past a row's words.
 pub(crate) fn moved_to(walk: Walk, end: usize) -> Walk
     ensures { λ r. ⌜ r ≡ movedTo walk end ⌝ }
@@ -91,17 +114,14 @@ pub(crate) fn moved_to(walk: Walk, end: usize) -> Walk
 pub(crate) fn warned(walk: Walk, warning: bool) -> Walk
     ensures { λ r. ⌜ r ≡ warned walk warning ⌝ }
 {
-    if !warning {
-        return walk;
-    }
     let mut next = walk;
-    next.warnings = 1;
+    next.warning = walk.warning | warning;
     next
 }
 
-// Test 1 on the number of rows; then a walk for this.
-fn begun(rows: usize, phase: Phase) -> Walk
-    ensures { λ r. ⌜ r ≡ begun rows phase ⌝ }
+// Test 1 on the number of rows; then a survey of them.
+pub(crate) fn begun(rows: usize) -> Walk
+    ensures { λ r. ⌜ r ≡ begun rows ⌝ }
 {
     if rows == 0 {
         return refused(1, 0);
@@ -109,21 +129,7 @@ fn begun(rows: usize, phase: Phase) -> Walk
     if MOST_ROWS < rows {
         return refused(1, 0);
     }
-    ready(phase)
-}
-
-// A start's first walk: a survey of the rows.
-pub(crate) fn begun_start(rows: usize) -> Walk
-    ensures { λ r. ⌜ r ≡ begun rows Survey ⌝ }
-{
-    begun(rows, Phase::Survey)
-}
-
-// A tick's first walk: all the rows' tests.
-pub(crate) fn begun_tick(rows: usize) -> Walk
-    ensures { λ r. ⌜ r ≡ begun rows Examine ⌝ }
-{
-    begun(rows, Phase::Examine)
+    ready(Phase::Survey)
 }
 
 // After a start's survey: test 3; then the fresh words.
@@ -139,11 +145,11 @@ pub(crate) fn surveyed(walk: Walk, words: usize) -> Walk
     refused(3, 0)
 }
 
-// After the rows' tests: what they found of 1 to 3, then tests 3, 4 and 5, then what they found of 6 and 7; then the run.
+// After a tick's survey: tests 3, 4 and 5; then the emits.
 pub(crate) fn formed(walk: Walk, rows: usize, words: usize, space: usize, time: f64) -> Walk
     ensures { λ r. ⌜ r ≡ formed walk rows words space time ⌝ }
 {
-    if (walk.refusal != 0) & (walk.refusal < 4) {
+    if walk.refusal != 0 {
         return refused(walk.refusal, walk.row);
     }
     if walk.at != words {
@@ -155,10 +161,17 @@ pub(crate) fn formed(walk: Walk, rows: usize, words: usize, space: usize, time: 
     if !is_finite(time) {
         return refused(5, 0);
     }
+    ready(Phase::Emit)
+}
+
+// After the emits: what they found of 6 and 7; then the updates.
+pub(crate) fn emitted(walk: Walk) -> Walk
+    ensures { λ r. ⌜ r ≡ emittedAll walk ⌝ }
+{
     if walk.refusal != 0 {
         return refused(walk.refusal, walk.row);
     }
-    ready(Phase::Run)
+    ready(Phase::Update)
 }
 
 // Whether a is twice b.
@@ -178,16 +191,37 @@ pub(crate) fn answer_of(walk: Walk) -> SheetAnswer
     SheetAnswer {
         refusal: walk.refusal,
         row: walk.row,
-        warning: walk.warnings != 0,
+        warning: walk.warning,
     }
 }
 
-// A tick for walks that look at none.
-pub(crate) fn no_tick() -> Tick
-    ensures { λ r. ⌜ r ≡ noTick ⌝ }
+// A tick's own words before any row emits: its inputs.
+pub(crate) fn in_sight(tick: Tick) -> [u64; OWN_WORDS]
+    ensures { λ r. ⌜ InSight tick r ⌝ }
 {
-    Tick {
-        time: 0.0,
-        words: [0; 8],
+    let mut seen = [0u64; OWN_WORDS];
+    seen[0] = tick.words[0];
+    seen[1] = tick.words[1];
+    seen[2] = tick.words[2];
+    seen[3] = tick.words[3];
+    seen[4] = tick.words[4];
+    seen[5] = tick.words[5];
+    seen[6] = tick.words[6];
+    seen[7] = tick.words[7];
+    seen
+}
+
+// After the updates: the answer words are handed out, unless the tick was refused.
+pub(crate) fn handed_out(walk: Walk, seen: [u64; OWN_WORDS], answers: &mut [u64]) -> SheetAnswer
+    ensures { λ r. ⌜ Gives (answerOf walk) (handedOut walk seen (now (answers .entry))) r (now (answers .exit)) ⌝ }
+{
+    if walk.refusal != 0 {
+        return answer_of(walk);
     }
+    if ROW_ANSWERS * MOST_ROWS < answers.len() {
+        return answer_of(walk);
+    }
+    let end = INPUT_WORDS + answers.len();
+    store(answers, &seen[INPUT_WORDS..end]);
+    answer_of(walk)
 }

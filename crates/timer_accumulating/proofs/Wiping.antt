@@ -15,7 +15,7 @@ use Rattle.dynamics.specs.Stepped.{steppedMachine}
 use Rattle.dynamics.specs.History.{History, started, wiped, followed, previousIn, refusedAfter, grown, RetoldFromWiping, AlikeFromWiping, AnswersWiping, RetoldFromStart}
 use Rattle.dynamics.specs.declared.previous.Previous.the-variants.{Unset, At}
 use Rattle.dynamics.proofs.Gaps.{zero-nonneg, zero-f64, either, sum-nonneg, sum-keeps}
-use Rattle.dynamics.proofs.Histories.{Kept, newest-grown, time-back, grown-sound, from-wiping, from-start, alike, answers-wiping}
+use Rattle.dynamics.proofs.Histories.{WipedWords, Kept, newest-grown, time-back, grown-sound, from-wiping, from-start, alike, answers-wiping}
 use Rattle.timer_accumulating.specs.TimerAccumulating.{machine, yNow, passedNow, next, advance, stateOf, wordsOf, outputs}
 use Rattle.timer_accumulating.specs.Account.{inputOf, resetOf, inputIn, wipes, total, stateAfter, account}
 use Rattle.timer_accumulating.specs.declared.TimerAccumulating.{TimerAccumulating}
@@ -108,16 +108,21 @@ module _ (b : TimerAccumulating) where
   unfolding advance next yNow passedNow stateOf stateAfter total
   wiped-state k w r = simp r
 
+  pub wiped-words : WipedWords (machine b) (account b)
+  unfolding steppedMachine
+  wiped-words k w p = ap wordsOf (wiped-state k w (p .wiping))
+
   pub kept : Kept (machine b) (account b) Good
   unfolding steppedMachine wordsOf stateAfter
   kept = record {
     quiet = λ w time i. refl;
+    sound-asks = λ w. refl;
     counted = λ h. refl;
     decodes = λ h g. unfold stateOf in rw (time-back h) (g .now);
     previous = λ h g. unfold stateOf in time-back h;
     fresh = unfold total in refl;
     good-fresh = record { now = refl; nonneg = unfold total in zero-nonneg };
-    wiped-words = λ k w p. ap wordsOf (wiped-state k w (p .wiping));
+    wiped-words = wiped-words;
     good-wiped = λ k f. record { now = f; nonneg = unfold total in zero-nonneg };
     output = λ k h g ok. ap outputs (state-next k h g ok b);
     after = λ k h g ok. ap wordsOf (state-next k h g ok b);
@@ -128,7 +133,7 @@ module _ (b : TimerAccumulating) where
   told = from-wiping (machine b) (account b) Good kept
 
   pub wiped-alike : AlikeFromWiping (machine b) (account b)
-  wiped-alike = alike (machine b) (account b) Good kept
+  wiped-alike = alike (machine b) (account b) wiped-words
 
   pub told-from-start : RetoldFromStart (machine b) (account b)
   told-from-start = from-start (machine b) (account b) Good kept

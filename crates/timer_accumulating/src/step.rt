@@ -49,7 +49,7 @@ fn passed_now(settings: TimerAccumulating, s: State, input: bool, wipes: bool, y
 }
 
 // The state after this tick.
-pub fn step(settings: TimerAccumulating, s: State, time: f64, inputs: Inputs) -> State
+pub(crate) fn step(settings: TimerAccumulating, s: State, time: f64, inputs: Inputs) -> State
     ensures { λ r. ⌜ r ≡ advance settings s time inputs ⌝ }
 {
     let input = flag_of(inputs.first);

@@ -18,7 +18,7 @@ use Rattle.dynamics.specs.Stepped.{steppedMachine}
 use Rattle.dynamics.specs.History.{History, started, wiped, followed, previousIn, refusedAfter, grown, RetoldFromWiping, AlikeFromWiping, AnswersWiping, RetoldFromStart}
 use Rattle.dynamics.specs.declared.previous.Previous.the-variants.{Unset, At}
 use Rattle.dynamics.proofs.Gaps.{zero-nonneg, zero-f64, either, sum-nonneg, sum-keeps}
-use Rattle.dynamics.proofs.Histories.{Kept, forward, newest-grown, time-back, from-wiping, from-start, alike, answers-wiping}
+use Rattle.dynamics.proofs.Histories.{WipedWords, Kept, forward, newest-grown, time-back, from-wiping, from-start, alike, answers-wiping}
 use Rattle.true_delay.specs.TrueDelay.{machine, outputAndTimer, next, advance, stateOf, wordsOf, outputs}
 use Rattle.true_delay.specs.Account.{inputOf, inputIn, wipes, sum, delay, atOnce, passes, timer, stateAfter, account}
 use Rattle.true_delay.specs.declared.TrueDelay.{TrueDelay}
@@ -69,7 +69,26 @@ sum-f64 started = zero-f64
 sum-f64 (wiped k) = zero-f64
 sum-f64 (followed h k) = either (λ x. T (fits binary64 x)) (inputIn h) (add-fits binary64 (sum h) (gap (k .time) (previousIn h))) zero-f64
 
--- delay_time is an f64, as every setting that a call brings is
+-- whatever its settings are
+module _ (b : TrueDelay) where
+  -- a wiping tick leaves the state of the history that is this tick alone
+  wiped-state : (k : Tick) (w : List ℕ) → not (inputOf k) ≡ true → advance b (stateOf w) (k .time) (k .inputs) ≡ stateAfter b (wiped k)
+  unfolding advance next outputAndTimer stateAfter passes timer
+  wiped-state k w r = simp (not-true (inputOf k) r)
+
+  pub wiped-words : WipedWords (machine b) (account b)
+  unfolding steppedMachine
+  wiped-words k w p = ap wordsOf (wiped-state k w (p .wiping))
+
+  pub wiped-alike : AlikeFromWiping (machine b) (account b)
+  wiped-alike = alike (machine b) (account b) wiped-words
+
+  -- the wiping tick's own answer
+  pub wiping-answer : AnswersWiping (machine b) (account b)
+  unfolding steppedMachine
+  wiping-answer = answers-wiping (machine b) (account b) (λ h. outputs (stateAfter b h)) (λ k h. refl) (λ k w p. ap outputs (wiped-state k w (p .wiping)))
+
+-- where delay_time is an f64, as every setting that a call brings is: a held output stores it
 module _ (b : TrueDelay) (is-f64 : T (fits binary64 (b .«delay_time»))) where
   delay-f64 : T (fits binary64 (delay b))
   unfolding positiveDuration
@@ -158,21 +177,17 @@ module _ (b : TrueDelay) (is-f64 : T (fits binary64 (b .«delay_time»))) where
             running = λ f _. unfold timer in simp (was-false e f);
           }
 
-  -- a wiping tick leaves the state of the history that is this tick alone
-  wiped-state : (k : Tick) (w : List ℕ) → not (inputOf k) ≡ true → advance b (stateOf w) (k .time) (k .inputs) ≡ stateAfter b (wiped k)
-  unfolding advance next outputAndTimer stateAfter passes timer
-  wiped-state k w r = simp (not-true (inputOf k) r)
-
   pub kept : Kept (machine b) (account b) Good
   unfolding steppedMachine wordsOf stateAfter
   kept = record {
     quiet = λ w time i. refl;
+    sound-asks = λ w. refl;
     counted = λ h. refl;
     decodes = λ h g. unfold stateOf in rw (time-back h) (g .now);
     previous = λ h g. unfold stateOf in time-back h;
     fresh = unfold timer passes in refl;
     good-fresh = good-fresh;
-    wiped-words = λ k w p. ap wordsOf (wiped-state k w (p .wiping));
+    wiped-words = wiped-words b;
     good-wiped = good-wiped;
     output = λ k h g ok. ap outputs (state-next k h g ok);
     after = λ k h g ok. ap wordsOf (state-next k h g ok);
@@ -182,13 +197,5 @@ module _ (b : TrueDelay) (is-f64 : T (fits binary64 (b .«delay_time»))) where
   pub told : RetoldFromWiping (machine b) (account b)
   told = from-wiping (machine b) (account b) Good kept
 
-  pub wiped-alike : AlikeFromWiping (machine b) (account b)
-  wiped-alike = alike (machine b) (account b) Good kept
-
   pub told-from-start : RetoldFromStart (machine b) (account b)
   told-from-start = from-start (machine b) (account b) Good kept
-
-  -- the wiping tick's own answer
-  pub wiping-answer : AnswersWiping (machine b) (account b)
-  unfolding steppedMachine
-  wiping-answer = answers-wiping (machine b) (account b) (λ h. outputs (stateAfter b h)) (λ k h. refl) (λ k w p. ap outputs (wiped-state k w (p .wiping)))

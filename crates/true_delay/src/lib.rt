@@ -23,8 +23,8 @@ use step::step;
 ghost use mathlib.Core.Path.{_≡_};
 ghost use Rattle.dynamics.specs.Answer.{emitted};
 ghost use Rattle.dynamics.specs.Region.{stored, Gives};
-ghost use Rattle.dynamics.specs.Machine.{lengthAnswer, startRefusal, decodeRefusal, tickRefusal, stateRefusal, startedWords, isSound, emitAnswer, updateAnswer, updatedWords, tickAnswer, admittedAnswer, admittedWords};
-ghost use Rattle.true_delay.specs.TrueDelay.{settingsAccepted, initial, machine, opened, outputs, wordsOf};
+ghost use Rattle.dynamics.specs.Machine.{lengthAnswer, startRefusal, decodeRefusal, decodeAnswer, tickRefusal, startedWords, isSound, emitAnswer, updateAnswer, updatedWords, tickAnswer};
+ghost use Rattle.true_delay.specs.TrueDelay.{settingsAccepted, initial, machine, stateOf, wordsOf, outputs, opened, zeros, reads};
 
 // How long a true input waits, and whether one on the first tick waits too.
 pub struct TrueDelay {
@@ -60,9 +60,9 @@ pub fn state_length(settings: TrueDelay) -> Length
 pub fn start(settings: TrueDelay, region: &mut [u64]) -> u64
     ensures { λ r. ⌜ Gives (startRefusal (machine settings) (now (region .entry))) (startedWords (machine settings) (now (region .entry))) r (now (region .exit)) ⌝ }
 {
-    let n = form_refusal(settings_accepted(settings), region.len() == STATE_LEN);
-    if n != 0 {
-        return n;
+    let refusal = form_refusal(settings_accepted(settings), region.len() == STATE_LEN);
+    if refusal != 0 {
+        return refusal;
     }
     write(region, init_state());
     0
@@ -71,6 +71,7 @@ pub fn start(settings: TrueDelay, region: &mut [u64]) -> u64
 // A region taken apart.
 pub fn decode(settings: TrueDelay, region: &[u64]) -> Decoded
     ensures { λ r. ⌜ r ≡ opened (decodeRefusal (machine settings) (now (region .entry))) (now (region .entry)) ⌝ }
+    ensures { λ r. ⌜ reads r ≡ decodeAnswer (machine settings) stateOf zeros (now (region .entry)) ⌝ }
 {
     let n = form_refusal(settings_accepted(settings), region.len() == STATE_LEN);
     if n != 0 {
@@ -106,15 +107,6 @@ fn admit(settings: TrueDelay, time: f64, region: &[u64]) -> Decoded
         return Decoded::Refused(k);
     }
     Decoded::State(s)
-}
-
-// Tests 6 and 7 alone, for a tick whose form and time are right. The refusal number; 0 is accepted.
-pub fn state_refusal(settings: TrueDelay, time: f64, region: &[u64]) -> u64
-    ensures { λ r. ⌜ r ≡ stateRefusal (machine settings) time (now (region .entry)) ⌝ }
-{
-    let s = state_of(region);
-    let previous = s.previous;
-    dynamics::state_refusal(time, previous_sound(previous), previous)
 }
 
 // The output as of this tick; nothing is stored.
@@ -157,13 +149,5 @@ pub fn tick(settings: TrueDelay, time: f64, inputs: Inputs, region: &mut [u64]) 
     let Decoded::State(s) = met else {
         return silent(number_of(met));
     };
-    finish(region, step(settings, s, time, inputs))
-}
-
-// A whole tick that was admitted before: no test is made.
-pub fn tick_admitted(settings: TrueDelay, time: f64, inputs: Inputs, region: &mut [u64]) -> Answer
-    ensures { λ r. ⌜ Gives (admittedAnswer (machine settings) time inputs (now (region .entry))) (admittedWords (machine settings) time inputs (now (region .entry))) r (now (region .exit)) ⌝ }
-{
-    let s = state_of(region);
     finish(region, step(settings, s, time, inputs))
 }

@@ -62,7 +62,7 @@ fn output_and_timer(settings: TrueDelay, s: State, time: f64, input: bool) -> Ti
 }
 
 // The state after this tick; it holds the output.
-pub fn step(settings: TrueDelay, s: State, time: f64, inputs: Inputs) -> State
+pub(crate) fn step(settings: TrueDelay, s: State, time: f64, inputs: Inputs) -> State
     ensures { λ r. ⌜ r ≡ advance settings s time inputs ⌝ }
 {
     let input = flag_of(inputs.first);

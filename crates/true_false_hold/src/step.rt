@@ -46,7 +46,7 @@ fn output_and_timer(settings: TrueFalseHold, s: State, time: f64, input: bool) -
 }
 
 // The state after this tick.
-pub fn step(settings: TrueFalseHold, s: State, time: f64, inputs: Inputs) -> State
+pub(crate) fn step(settings: TrueFalseHold, s: State, time: f64, inputs: Inputs) -> State
     ensures { λ r. ⌜ r ≡ advance settings s time inputs ⌝ }
 {
     let timed = output_and_timer(settings, s, time, flag_of(inputs.first));

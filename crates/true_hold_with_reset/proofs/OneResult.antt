@@ -1,6 +1,6 @@
 -- Each public call's contract admits one result only, and one region. Assumes nothing.
 use denote.Ref.{now}
-use Rattle.reals.proofs.Once.{Once, OnceLeft, equation-once}
+use Rattle.reals.proofs.Once.{Once, OnceLeft, equation-once, first-once}
 use Rattle.dynamics.proofs.Calls.{one-result}
 use Rattle.true_hold_with_reset.proofs.state_length.Reads as length
 use Rattle.true_hold_with_reset.proofs.start.Reads as start
@@ -9,8 +9,6 @@ use Rattle.true_hold_with_reset.proofs.decode.Reads as decode
 use Rattle.true_hold_with_reset.proofs.emit.Reads as emit
 use Rattle.true_hold_with_reset.proofs.update.Reads as update
 use Rattle.true_hold_with_reset.proofs.tick.Reads as tick
-use Rattle.true_hold_with_reset.proofs.state_refusal.Reads as state-refusal
-use Rattle.true_hold_with_reset.proofs.tick_admitted.Reads as admitted
 
 pub length-once : Once length.Post
 length-once = equation-once
@@ -19,13 +17,10 @@ pub sound-once : Once sound.Post
 sound-once = equation-once
 
 pub decode-once : Once decode.Post
-decode-once = equation-once
+decode-once = first-once
 
 pub emit-once : Once emit.Post
 emit-once = equation-once
-
-pub state-refusal-once : Once state-refusal.Post
-state-refusal-once = equation-once
 
 pub start-once : OnceLeft start.Post (λ κs s. now (s .1 .0))
 start-once = one-result
@@ -35,6 +30,3 @@ update-once = one-result
 
 pub tick-once : OnceLeft tick.Post (λ κs s. now (s .1 .1 .1 .0))
 tick-once = one-result
-
-pub admitted-once : OnceLeft admitted.Post (λ κs s. now (s .1 .1 .1 .0))
-admitted-once = one-result

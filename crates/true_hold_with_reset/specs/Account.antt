@@ -1,4 +1,5 @@
 -- `TrueHoldWithReset` told from its history: the accepted ticks since the latest start or true clear. Definitions only.
+use mathlib.Core.Path.{_≡_}
 use mathlib.Core.Bool.{Bool, false, _&&_, _||_, cond}
 use lib.Ieee.{Float, lt}
 use Rattle.reals.specs.Words.{0·0, flagOf}
@@ -21,27 +22,28 @@ clearOf k = flagOf (k .inputs .second)
 abbrev pub wipes : Tick → History → Bool
 wipes k h = clearOf k
 
--- a hold: whether it is true, and the sum of the gaps since its run began, from 0.0 and in order, each addition rounded
-pub record Run : Type 0 where
-  pub on : Bool
-  pub sum : Float
-
 module _ (b : TrueHoldWithReset) where
-  -- one tick more: true when its input is, or when the hold was true one tick before and the sum is below the duration
-  unfoldable pub onward : Run → Float → Bool → Run
-  onward before since input =
-      let sum = cond (before .on) (before .sum ⊕ since) 0·0 in
-      record { on = input || (before .on && lt sum (b .duration)); sum = sum }
+  unfoldable mutual
+    -- false after a start and on a wiping tick; else true when its input is, or when the hold was true one tick before and the sum since
+    -- its run began, through this tick, is below the duration
+    pub holding : History → Bool
+    holding started = false
+    holding (wiped k) = false
+    holding (followed h k) = inputOf k || (holding h && lt (sum h ⊕ gap (k .time) (previousIn h)) (b .duration))
 
-  -- false on a wiping tick
-  unfoldable pub hold : History → Run
-  hold started = record { on = false; sum = 0·0 }
-  hold (wiped k) = record { on = false; sum = 0·0 }
-  hold (followed h k) = onward (hold h) (gap (k .time) (previousIn h)) (inputOf k)
+    -- that sum, from 0.0 and in order, each addition rounded, of the gaps since the run began: 0.0 where it begins
+    pub sum : History → Float
+    sum started = 0·0
+    sum (wiped k) = 0·0
+    sum (followed h k) = cond (holding h) (sum h ⊕ gap (k .time) (previousIn h)) 0·0
+
+  -- document 01's sentence as an equation, over the sum of the history that the tick leaves
+  abbrev pub HoldSays : Type 0
+  HoldSays = (h : History) (k : Tick) → holding (followed h k) ≡ inputOf k || (holding h && lt (sum (followed h k)) (b .duration))
 
   -- the sum is stored while the hold is true, else 0.0
   unfoldable pub stateAfter : History → State
-  stateAfter h = record { held = hold h .on; timer = cond (hold h .on) (hold h .sum) 0·0; previous = previousIn h }
+  stateAfter h = record { held = holding h; timer = cond (holding h) (sum h) 0·0; previous = previousIn h }
 
   abbrev pub account : Account
   account = record {

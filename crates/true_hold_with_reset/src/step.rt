@@ -64,7 +64,7 @@ fn output_and_timer(
 }
 
 // The state after this tick.
-pub fn step(settings: TrueHoldWithReset, s: State, time: f64, inputs: Inputs) -> State
+pub(crate) fn step(settings: TrueHoldWithReset, s: State, time: f64, inputs: Inputs) -> State
     ensures { λ r. ⌜ r ≡ advance settings s time inputs ⌝ }
 {
     let input = flag_of(inputs.first);

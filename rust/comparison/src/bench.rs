@@ -3,9 +3,9 @@ pub mod driver;
 pub mod published_sheet;
 pub mod sheet;
 
-use crate::Kind;
 use crate::inputs::bench_controller;
 use crate::oracle::{Oracle, values};
+use crate::{Kind, TickWords};
 use Kind::*;
 use oce_blocks::{Block, Ctx, NoopDiagnostics, access};
 use oce_model::Value;
@@ -143,7 +143,7 @@ impl Case {
 
     /// The ticks from this one after the warm-up on, or the emits of a walk: time and inputs.
     #[must_use]
-    pub fn ticks(&self, from: u64, count: u64) -> Vec<[u64; 4]> {
+    pub fn ticks(&self, from: u64, count: u64) -> Vec<TickWords> {
         let tick = |n| {
             let time = if self.is_walk() {
                 self.time(self.warm) + self.ahead
@@ -200,8 +200,8 @@ impl Published {
     }
 
     #[must_use]
-    pub fn prepared(&self, ticks: &[[u64; 4]]) -> Vec<Prepared> {
-        let prepared = |[time, inputs @ ..]: &[u64; 4]| Prepared {
+    pub fn prepared(&self, ticks: &[TickWords]) -> Vec<Prepared> {
+        let prepared = |[time, inputs @ ..]: &TickWords| Prepared {
             time: f64::from_bits(*time),
             inputs: values(self.kind, inputs).0,
             outputs: [Value::Boolean(false); 2],

@@ -7,7 +7,7 @@ use crate::effects::{effects, faults};
 use crate::inputs::{self, Rng};
 use crate::oracle::Oracle;
 use crate::tally::{Class, Tally};
-use crate::{Answer, Calls, Kind, Update, hex, model};
+use crate::{Answer, Calls, Kind, TickWords, Update, hex, model};
 
 /// Ticks in a run, and the emits and updates that they are.
 const TICKS: u64 = 12;
@@ -126,14 +126,19 @@ impl Run<'_> {
         got == due
     }
 
-    fn start(&mut self) {
-        let mut mine = self.region.clone();
-        let got = (self.subject.start)(self.kind, &self.settings, &mut mine);
-        let due = match &self.oracle {
+    /// The number that is due for settings and region alone: of a start and of a run.
+    fn start_refusal(&self) -> u64 {
+        match &self.oracle {
             None => 2,
             Some(oracle) if oracle.state_length() != self.region.len() => 3,
             Some(_) => 0,
-        };
+        }
+    }
+
+    fn start(&mut self) {
+        let mut mine = self.region.clone();
+        let got = (self.subject.start)(self.kind, &self.settings, &mut mine);
+        let due = self.start_refusal();
         let mut theirs = self.region.clone();
         if let Some(oracle) = self.accepted(due) {
             oracle.start(&mut theirs);
@@ -221,12 +226,19 @@ impl Run<'_> {
     }
 
     /// The ticks that led from the region before to this one, once more and all in one call.
-    fn run(&mut self, ticks: &[[u64; 4]], before: Vec<u64>, answers: &[Answer]) {
+    fn run(&mut self, ticks: &[TickWords], before: Vec<u64>, answers: &[Answer]) {
         let theirs = std::mem::replace(&mut self.region, before);
         let mut mine = self.region.clone();
         let got = (self.subject.run)(self.kind, &self.settings, ticks, &mut mine);
         self.tally.see(Class::Run);
-        self.expect("run", got.as_slice(), answers);
+        let refused = self.start_refusal();
+        let due = if refused == 0 {
+            Ok(answers)
+        } else {
+            self.tally.see(Class::RunRefused(refused));
+            Err(&refused)
+        };
+        self.expect("run", got.as_deref(), due);
         self.expect_words("run", &mine, &theirs);
         self.region = theirs;
     }

@@ -1,8 +1,10 @@
 //! What an accepted update did, by the words before and after it.
-use crate::Kind;
+use crate::inputs::MINUS_ZERO;
+use crate::lengths::Off;
 use crate::model::leaves::UNSET;
 use crate::ring_classes;
-use crate::tally::{Class, met};
+use crate::tally::{Class, Word, met};
+use crate::{Kind, model};
 
 /// The classes of an update but for its warning.
 pub fn effects(kind: Kind, s: &[u64], inputs: &[u64], before: &[u64], after: &[u64]) -> Vec<Class> {
@@ -24,11 +26,15 @@ pub fn effects(kind: Kind, s: &[u64], inputs: &[u64], before: &[u64], after: &[u
             classes.extend(met(controller_reset(s, before)));
         }
     }
+    classes.extend(Word::settings(kind, s).map(Class::BooleanSetting));
+    let back_to_minus_zero = times == Some((ZERO, MINUS_ZERO)) && !wiping;
+    let minus_zero_sum = back_to_minus_zero && keeps_minus_zero(kind, s, inputs, before, after);
     let gap = times.map(|(previous, time)| f64::from_bits(time) - f64::from_bits(previous));
     let infinite = !first && gap.is_some_and(f64::is_infinite);
     classes.extend(met([
         (Class::FirstTick, first),
         (Class::InfiniteGap, infinite),
+        (Class::MinusZeroSum, minus_zero_sum),
         (Class::Wiping, wiping),
     ]));
     classes
@@ -36,15 +42,38 @@ pub fn effects(kind: Kind, s: &[u64], inputs: &[u64], before: &[u64], after: &[u
 
 /// The classes of a refusal beside its number.
 pub fn faults(kind: Kind, refused: u64, s: &[u64], region: &[u64]) -> Vec<Class> {
-    let damage = match (kind, refused) {
-        (Kind::MovingAverage, 6) => ring_classes::damage(s, region),
-        _ => None,
-    };
-    damage.into_iter().map(Class::Ring).collect()
+    match (kind, refused) {
+        (_, 3) => {
+            let (_, due) = model::state_length(kind, s);
+            Off::of(region.len(), due).map(Class::Length).collect()
+        }
+        (Kind::MovingAverage, 6) => {
+            let damage = ring_classes::damage(s, region);
+            damage.into_iter().map(Class::Ring).collect()
+        }
+        _ => vec![],
+    }
 }
 
 const ZERO: u64 = 0;
-const MINUS_ZERO: u64 = 1 << 63;
+
+/// The place of what the gap is added to: a timer's sum, or an integral, to which it is added times a rate.
+fn sum_place(kind: Kind, s: &[u64]) -> Option<usize> {
+    match kind {
+        Kind::Pid | Kind::PidWithReset => (s[0] & 1 == 1).then_some(0),
+        Kind::MovingAverage | Kind::TimerAccumulating | Kind::TrueDelay => Some(0),
+        Kind::TrueFalseHold | Kind::TrueHoldWithReset => Some(1),
+        Kind::LogicalVariablePulse => Some(3),
+    }
+}
+
+/// Whether a tick that wipes nothing has added the gap to a -0.0 and left one. Where none is added the others leave 0.0, but an
+/// accumulating timer keeps its total.
+fn keeps_minus_zero(kind: Kind, s: &[u64], inputs: &[u64], before: &[u64], after: &[u64]) -> bool {
+    let adds = kind != Kind::TimerAccumulating || (inputs[0] != 0 && before[2] != 0);
+    let stays = |n: usize| (before[n], after[n]) == (MINUS_ZERO, MINUS_ZERO);
+    adds && sum_place(kind, s).is_some_and(stays)
+}
 
 /// What a controller's tick meets by its settings and inputs.
 fn controller_tick(s: &[u64], inputs: &[u64]) -> [(Class, bool); 5] {

@@ -11,6 +11,7 @@ mod effects;
 pub mod histories;
 pub mod inputs;
 pub mod leaves;
+pub mod lengths;
 pub mod model;
 pub mod oracle;
 mod ring;
@@ -55,8 +56,13 @@ pub struct Decoded {
 pub type Emit = fn(Kind, &[u64], u64, &[u64], &[u64]) -> Answer;
 pub type Update = fn(Kind, &[u64], u64, &[u64], &mut [u64]) -> Answer;
 
-/// Whole ticks in their order, each its time and its inputs, then the region: what each answers.
-pub type Run = fn(Kind, &[u64], &[[u64; 4]], &mut [u64]) -> Vec<Answer>;
+/// Words of a run's tick: its time and three inputs.
+pub const TICK_WORDS: usize = 4;
+
+pub type TickWords = [u64; TICK_WORDS];
+
+/// Whole ticks in their order, then the region: what each answers, or the refusal of the run, which writes nothing.
+pub type Run = fn(Kind, &[u64], &[TickWords], &mut [u64]) -> Result<Vec<Answer>, u64>;
 
 /// The calls that are compared with the Rust: the model's, a slipped model's, or those of a port.
 /// Settings, inputs and region are words. There are always three inputs: a block that takes fewer

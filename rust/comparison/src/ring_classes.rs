@@ -2,7 +2,7 @@
 use crate::inputs::{next_down, next_up};
 use crate::model::leaves::{UNSET, is_finite, real_of};
 use crate::ring::Ring;
-use crate::tally::met;
+use crate::tally::{Word, met};
 
 #[derive(Clone, Copy, Debug, PartialEq, Eq, PartialOrd, Ord)]
 pub enum RingClass {
@@ -79,14 +79,6 @@ pub enum Side {
     Above,
 }
 
-/// A word that is read as a boolean.
-#[derive(Clone, Copy, Debug, PartialEq, Eq, PartialOrd, Ord)]
-pub enum Word {
-    Zero,
-    One,
-    Other,
-}
-
 /// A head or a count outside the ring.
 #[derive(Clone, Copy, Debug, PartialEq, Eq, PartialOrd, Ord)]
 pub enum Damage {
@@ -129,7 +121,7 @@ pub fn all() -> Vec<RingClass> {
     all.extend(sizes.map(Window));
     all.extend(places.map(WindowStart));
     all.extend(damages.map(Damaged));
-    all.extend([Word::Zero, Word::One, Word::Other].map(Coalesced));
+    all.extend(Word::ALL.map(Coalesced));
     for side in [Side::Below, Side::At, Side::Above] {
         all.extend([Expires(side), Apart(side), Fills(side)]);
     }
@@ -270,15 +262,10 @@ impl Tick<'_> {
         let coalesced = !self.grew && !equal_bits;
         let close = |before| self.t() - before < 2.0 * ring.resolution();
         let is_close = self.last_but_one().is_some_and(close);
-        let word = match ring.coalesced() {
-            0 => Word::Zero,
-            1 => Word::One,
-            _ => Word::Other,
-        };
         met([
             (EqualBits, equal_bits),
             (OtherZero, equal && !equal_bits),
-            (Coalesced(word), coalesced),
+            (Coalesced(Word::of(ring.coalesced())), coalesced),
             (NoSlot, coalesced && !is_close),
         ])
     }

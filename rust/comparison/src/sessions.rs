@@ -127,7 +127,7 @@ fn first_line(kind: Kind, s: &[u64]) -> String {
     let items = kind.settings().bytes().zip(s);
     let written = items.map(|(item, w)| match item {
         b'c' => format!(" {}", ["P", "PI", "PD", "PID"][*w as usize]),
-        b'b' => format!(" {w}"),
+        b'b' => format!(" {}", u64::from(*w != 0)),
         _ => format!(" {}", hex(&[*w])),
     });
     kind.name() + &written.collect::<String>()

@@ -57,6 +57,12 @@ impl Stored {
 
     #[must_use]
     pub fn line(&self) -> String {
+        hex(&self.words())
+    }
+
+    /// The words of its line.
+    #[must_use]
+    pub fn words(&self) -> Vec<u64> {
         let (emitted, updated) = (&self.emitted, &self.updated);
         let zeros = vec![0; self.before.len()];
         let parts = [
@@ -69,7 +75,7 @@ impl Stored {
             vec![updated.refusal, updated.warning.into()],
             self.region(&self.before, &self.after),
         ];
-        hex(&parts.concat())
+        parts.concat()
     }
 
     /// The words of a region: all, or for a moving average those that are not as in `base`.

@@ -2,6 +2,7 @@
 use std::collections::BTreeMap;
 use std::fmt::Debug;
 
+use crate::lengths::Off;
 use crate::ring_classes::{self, RingClass};
 use crate::{Answer, Kind};
 
@@ -15,6 +16,14 @@ pub enum Class {
     Decoded(u64),
     /// Many ticks in one call.
     Run,
+    /// A run that is refused as a whole, by this number.
+    RunRefused(u64),
+    /// A region refused for its length: how far it is off.
+    Length(Off),
+    /// A boolean setting in an accepted call.
+    BooleanSetting(Word),
+    /// A gap of -0.0 added to a stored -0.0: the sum is one too.
+    MinusZeroSum,
     FirstTick,
     True,
     False,
@@ -47,6 +56,38 @@ pub enum Class {
     ZeroReset(bool),
     /// A rising trigger on an integrator that is a NaN.
     NanReset,
+}
+
+/// A word that is read as a boolean.
+#[derive(Clone, Copy, Debug, PartialEq, Eq, PartialOrd, Ord)]
+pub enum Word {
+    Zero,
+    One,
+    /// Even, but not 0: true all the same.
+    Even,
+    /// Odd, but not 1.
+    Odd,
+}
+
+impl Word {
+    pub const ALL: [Word; 4] = [Word::Zero, Word::One, Word::Even, Word::Odd];
+
+    #[must_use]
+    pub fn of(word: u64) -> Word {
+        match word {
+            0 => Word::Zero,
+            1 => Word::One,
+            _ if word % 2 == 0 => Word::Even,
+            _ => Word::Odd,
+        }
+    }
+
+    /// What the boolean settings of a block are.
+    pub fn settings(kind: Kind, s: &[u64]) -> impl Iterator<Item = Word> {
+        let items = kind.settings().bytes().zip(s);
+        let booleans = items.filter(|(item, _)| *item == b'b');
+        booleans.map(|(_, word)| Word::of(*word))
+    }
 }
 
 use Class::*;
@@ -141,9 +182,14 @@ pub(crate) fn met<C, const N: usize>(classes: [(C, bool); N]) -> impl Iterator<I
 /// What a comparison of this block call by call must meet.
 #[must_use]
 pub fn expected_classes(kind: Kind) -> Vec<Class> {
-    let mut wanted = vec![Accepted, Start, FirstTick, InfiniteGap, Run];
+    let mut wanted = vec![Accepted, Start, FirstTick, InfiniteGap, MinusZeroSum, Run];
     wanted.extend([2, 3, 5, 6, 7].map(Refused));
+    wanted.extend([2, 3].map(RunRefused));
+    wanted.extend(Off::ALL.map(Length));
     wanted.extend([0, 2, 3, 6].map(Decoded));
+    if kind.settings().contains('b') {
+        wanted.extend(Word::ALL.map(BooleanSetting));
+    }
     if kind.outputs().contains('b') {
         wanted.extend([True, False]);
     }

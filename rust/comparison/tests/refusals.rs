@@ -2,6 +2,7 @@
 //! five faults put in is refused with the least number among them, and with zeros, and writes
 //! nothing. The Rust refuses nothing, so this does not come from it.
 use comparison::inputs::{self, NOT_FINITE, Rng};
+use comparison::lengths::other_length;
 use comparison::model::{self, leaves::UNSET};
 use comparison::{Answer, Kind};
 
@@ -48,8 +49,7 @@ impl Call {
                 let reals: Vec<_> = self.kind.settings().match_indices('r').collect();
                 self.settings[r.pick(&reals).0] = r.pick(&NOT_FINITE);
             }
-            3 if r.one_in(2) => self.region.push(0),
-            3 => drop(self.region.pop()),
+            3 => self.region.resize(other_length(r, self.region.len()), 0),
             5 => self.time = r.pick(&[NOT_FINITE.as_slice(), &[UNSET]].concat()),
             6 if self.kind == Kind::MovingAverage && r.one_in(2) => self.damage_ring(r),
             6 => self.region[place] = r.pick(&NOT_FINITE),

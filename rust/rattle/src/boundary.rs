@@ -1,5 +1,6 @@
 //! The boundary as include/oven.h has it, each function a safe one over slices. A block goes by its number, and all else
 //! as words: a real as its bits, a boolean as 0 or 1.
+use comparison::TickWords;
 
 /// What a tick answers.
 #[derive(Clone, Copy, Debug, PartialEq, Eq, Default)]
@@ -51,7 +52,10 @@ unsafe extern "C" {
 }
 
 /// A tick's time and its three inputs.
-pub type Tick = [u64; 4];
+pub type Tick = TickWords;
+
+/// Words of an answer in a run.
+pub const ANSWER_WORDS: usize = size_of::<AnswerWords>() / size_of::<u64>();
 
 #[rustfmt::skip]
 type Writing = unsafe extern "C" fn(u64, *const u64, usize, u64, u64, u64, u64, *mut u64, usize) -> AnswerWords;
@@ -117,7 +121,7 @@ pub fn decode(block: u64, s: &[u64], w: &[u64]) -> StateWords {
     unsafe { oven_decode(block, s.as_ptr(), s.len(), w.as_ptr(), w.len()) }
 }
 
-/// Whole ticks, four words each, and as many words of answers; the refusal of the call.
+/// Whole ticks, `TICK_WORDS` each, and for each `ANSWER_WORDS` of answers; the refusal of the call.
 #[inline]
 #[must_use]
 pub fn run(block: u64, s: &[u64], ticks: &[u64], w: &mut [u64], answers: &mut [u64]) -> u64 {

@@ -2,7 +2,7 @@
 use comparison::sheet::{SheetAnswer, SheetCalls};
 use comparison::{Answer, Calls, Decoded, Kind, model};
 
-use crate::boundary::{AnswerWords, SheetWords, Tick};
+use crate::boundary::{ANSWER_WORDS, AnswerWords, SheetWords, Tick};
 use crate::guarded;
 
 /// The proved calls, to be compared with the Rust.
@@ -16,10 +16,15 @@ pub const CALLS: Calls = Calls {
     update: |kind, s, time, v, w| answer(guarded::update(kind as u64, s, tick(time, v), w)),
     tick: |kind, s, time, v, w| answer(guarded::tick(kind as u64, s, tick(time, v), w)),
     run: |kind, s, ticks, w| {
-        let mut answers = vec![UNWRITTEN; 4 * ticks.len()];
-        let refused = guarded::run(kind as u64, s, ticks.as_flattened(), w, &mut answers);
-        assert_eq!(refused, 0, "a run of whole ticks is refused");
-        answers.chunks_exact(4).map(four).map(answer).collect()
+        let mut answers = vec![[UNWRITTEN; ANSWER_WORDS]; ticks.len()];
+        let words = answers.as_flattened_mut();
+        let refused = guarded::run(kind as u64, s, ticks.as_flattened(), w, words);
+        if refused != 0 {
+            let stay = words.iter().all(|word| *word == UNWRITTEN);
+            assert!(stay, "a run that is refused has written answers");
+            return Err(refused);
+        }
+        Ok(answers.into_iter().map(answer_words).map(answer).collect())
     },
     sound: |kind, s, w| flag(guarded::sound(kind as u64, s, w)),
     decode: |kind, s, w| {
@@ -80,12 +85,12 @@ fn sheet_answer(words: SheetWords) -> SheetAnswer {
 }
 
 /// An answer of a run.
-fn four(words: &[u64]) -> AnswerWords {
+fn answer_words([refusal, real, boolean, warning]: [u64; ANSWER_WORDS]) -> AnswerWords {
     AnswerWords {
-        refusal: words[0],
-        real: words[1],
-        boolean: words[2],
-        warning: words[3],
+        refusal,
+        real,
+        boolean,
+        warning,
     }
 }
 

@@ -1,10 +1,11 @@
 //! The numbers of include/oven.h are those of the proved library.
 use std::collections::HashMap;
 
-use comparison::Kind;
 use comparison::inputs::{Rng, bench_controller};
 use comparison::sheet::{ROW_WORDS, Row, SETTINGS};
 use comparison::sheets::{Fault, Sheet, plant};
+use comparison::{Kind, TICK_WORDS};
+use rattle::boundary::ANSWER_WORDS;
 use rattle::{BLOCKS, CALLS, SHEETS};
 
 /// Each name that the header gives a number, by a define or in an enum.
@@ -87,6 +88,13 @@ fn rows() {
     assert_eq!(places, [1, 5, 6, 7]);
     assert_eq!(words[number("SETTINGS")..], settings);
     assert_eq!(words.len(), number("WORDS"));
+}
+
+#[test]
+fn words_of_a_run() {
+    let numbers = numbers();
+    let words = ["TICK", "ANSWER"].map(|name| numbers[&format!("OVEN_{name}_WORDS")] as usize);
+    assert_eq!(words, [TICK_WORDS, ANSWER_WORDS]);
 }
 
 /// What the header calls a refusal is what the sheet gives for its fault.

@@ -1,6 +1,8 @@
-//! A run of many ticks: which lengths it takes, and that it is its ticks one by one.
+//! A run of many ticks: which lengths and settings it takes, and that it is its ticks one by one.
 use comparison::inputs::{self, Rng};
-use comparison::{Kind, model};
+use comparison::lengths::other_length;
+use comparison::{Kind, TICK_WORDS, model};
+use rattle::boundary::ANSWER_WORDS;
 use rattle::{BLOCKS, guarded as calls};
 
 /// A block with settings and a region that is started.
@@ -27,7 +29,7 @@ fn ticks(r: &mut Rng, kind: Kind, words: usize) -> Vec<u64> {
         let [first, second, third] = inputs::tick_inputs(r, kind);
         [inputs::time_after(r, n as f64), first, second, third]
     };
-    let mut ticks = (0..words.div_ceil(4))
+    let mut ticks = (0..words.div_ceil(TICK_WORDS))
         .map(tick)
         .collect::<Vec<_>>()
         .concat();
@@ -43,30 +45,37 @@ impl Started {
         (refused, w, a)
     }
 
+    /// What a refusal of this number leaves: all words as they were.
+    fn refused(&self, number: u64, answers: usize) -> (u64, Vec<u64>, Vec<u64>) {
+        (number, self.region.clone(), vec![9; answers])
+    }
+
     /// The same, by single ticks.
     fn singly(&self, ticks: &[u64]) -> (u64, Vec<u64>, Vec<u64>) {
         let mut w = self.region.clone();
         let answer = |tick: &[u64]| {
-            let tick = tick.try_into().expect("four words");
+            let tick = tick.try_into().expect("the words of a tick");
             let a = calls::tick(self.kind as u64, &self.settings, tick, &mut w);
             [a.refusal, a.real, a.boolean, a.warning]
         };
-        let answers: Vec<[u64; 4]> = ticks.chunks_exact(4).map(answer).collect();
+        let ticks = ticks.chunks_exact(TICK_WORDS);
+        let answers: Vec<[u64; ANSWER_WORDS]> = ticks.map(answer).collect();
         (0, w, answers.concat())
     }
 }
 
 #[test]
-fn a_run_takes_four_words_a_tick_and_an_answer() {
+fn a_run_takes_so_many_words_a_tick_and_an_answer() {
     let mut r = Rng::new(5, 1);
     for kind in BLOCKS {
         let block = started(&mut r, kind);
         for (words, answers) in (0..=20).flat_map(|words| (0..=20).map(move |a| (words, a))) {
             let ticks = ticks(&mut r, kind, words);
-            let due = if words % 4 == 0 && answers == words {
+            let whole = words % TICK_WORDS == 0 && answers == words / TICK_WORDS * ANSWER_WORDS;
+            let due = if whole {
                 block.singly(&ticks)
             } else {
-                (14, block.region.clone(), vec![9; answers])
+                block.refused(14, answers)
             };
             assert!(
                 block.run(&ticks, answers) == due,
@@ -76,33 +85,65 @@ fn a_run_takes_four_words_a_tick_and_an_answer() {
     }
 }
 
+/// An answer space that is far too long or too short.
+#[test]
+fn a_run_takes_no_other_answer_space() {
+    let mut r = Rng::new(5, 4);
+    for kind in BLOCKS.into_iter().flat_map(|kind| [kind; 40]) {
+        let block = started(&mut r, kind);
+        let ticks = ticks(&mut r, kind, TICK_WORDS * 3);
+        let answers = other_length(&mut r, ANSWER_WORDS * 3);
+        assert!(block.run(&ticks, answers) == block.refused(14, answers));
+    }
+}
+
 #[test]
 fn a_run_is_its_ticks_one_by_one() {
     let mut r = Rng::new(5, 2);
     for kind in BLOCKS.into_iter().flat_map(|kind| [kind; 40]) {
         let block = started(&mut r, kind);
-        let ticks = ticks(&mut r, kind, 4 * 50);
+        let ticks = ticks(&mut r, kind, TICK_WORDS * 50);
         let due = block.singly(&ticks);
-        assert!(block.run(&ticks, ticks.len()) == due, "{kind:?}");
+        assert!(block.run(&ticks, ANSWER_WORDS * 50) == due, "{kind:?}");
     }
 }
 
-/// Settings, a region or times that are refused are so tick by tick; the run itself is none of that.
+/// A length that is refused refuses the run, and so do settings, which come first; 14 comes before both. Nothing is written.
+#[test]
+fn settings_and_lengths_refuse_the_run() {
+    let mut r = Rng::new(5, 3);
+    for kind in BLOCKS.into_iter().flat_map(|kind| [kind; 40]) {
+        let mut block = started(&mut r, kind);
+        let ticks = ticks(&mut r, kind, TICK_WORDS * 3);
+        let answers = ticks.len() / TICK_WORDS * ANSWER_WORDS;
+        let length = other_length(&mut r, block.region.len());
+        block.region.resize(length, 7);
+        let number = |block: &Started, answers| {
+            let ran = block.run(&ticks, answers);
+            assert!(ran == block.refused(ran.0, answers), "{kind:?}");
+            ran.0
+        };
+        assert_eq!(number(&block, answers), 3, "{kind:?}");
+        let reals: Vec<_> = kind.settings().match_indices('r').collect();
+        block.settings[r.pick(&reals).0] = f64::NAN.to_bits();
+        assert_eq!(number(&block, answers), 2, "{kind:?}");
+        assert_eq!(number(&block, answers + 1), 14, "{kind:?}");
+    }
+}
+
+/// A state and times that are refused are so tick by tick.
 #[test]
 fn refused_ticks_are_answered_one_by_one() {
-    let mut r = Rng::new(5, 3);
+    let mut r = Rng::new(5, 5);
     for kind in BLOCKS {
         let mut block = started(&mut r, kind);
-        block.region.push(7);
-        let ticks = ticks(&mut r, kind, 4 * 3);
-        let due = (0, block.region.clone(), [3, 0, 0, 0].repeat(3));
-        assert!(block.run(&ticks, ticks.len()) == due, "{kind:?}");
-        let place = kind
-            .settings()
-            .find('r')
-            .expect("a block has a real setting");
-        block.settings[place] = f64::NAN.to_bits();
-        let due = (0, block.region.clone(), [2, 0, 0, 0].repeat(3));
-        assert!(block.run(&ticks, ticks.len()) == due, "{kind:?}");
+        if let Some(place) = kind.time_place(&block.settings) {
+            let ticks = ticks(&mut r, kind, TICK_WORDS * 3);
+            block.region[place] = f64::INFINITY.to_bits();
+            let (refused, left, answers) = block.run(&ticks, ANSWER_WORDS * 3);
+            assert!((refused, left) == (0, block.region.clone()), "{kind:?}");
+            let numbers = answers.iter().step_by(ANSWER_WORDS);
+            assert!(numbers.clone().all(|n| [5, 6].contains(n)), "{kind:?}");
+        }
     }
 }

@@ -1,6 +1,7 @@
 //! Words that name no block are refused with 13 by every call, before all else, and nothing is written.
+use comparison::{TICK_WORDS, TickWords};
 use rattle::BLOCKS;
-use rattle::boundary::{AnswerWords, LengthWords, StateWords};
+use rattle::boundary::{ANSWER_WORDS, AnswerWords, LengthWords, StateWords};
 use rattle::guarded as calls;
 
 /// Numbers of blocks and of none.
@@ -46,7 +47,7 @@ const REFUSED: AnswerWords = AnswerWords {
 };
 
 /// The time is none and the words are no region's: but for 13 these calls have other faults.
-const TICK: [u64; 4] = [u64::MAX; 4];
+const TICK: TickWords = [u64::MAX; TICK_WORDS];
 
 /// How many of the eight calls refuse with 13, and with zeros. What they are lent is of these lengths, and must stay.
 fn refusals(block: u64, s: &[u64], region: usize, ticks: usize, answers: usize) -> usize {
@@ -85,7 +86,8 @@ fn exactly_the_words_that_name_no_block_are_refused() {
         for (count, first) in (0..=20).flat_map(|count| TYPES.map(|first| (count, first))) {
             let s = settings(first, count);
             let due = if names_a_block(block, &s) { 0 } else { 7 };
-            for (region, ticks, answers) in [(0, 0, 0), (3, 4, 4), (5, 8, 8)] {
+            for (region, ticks) in [(0, 0), (3, 1), (5, 2)] {
+                let (ticks, answers) = (TICK_WORDS * ticks, ANSWER_WORDS * ticks);
                 let got = refusals(block, &s, region, ticks, answers);
                 assert_eq!(
                     got, due,

@@ -16,7 +16,7 @@ pub use sheet_table::SHEET_SLIPS;
 pub use table::{SLIPS, Slip};
 
 // what the copies name, as the model does
-pub use comparison::{Answer, Calls, Decoded, Kind, sheet};
+pub use comparison::{Answer, Calls, Decoded, Kind, TickWords, sheet};
 
 /// The calls of each slipped model, in the order of the table.
 pub const SLIPPED: [Calls; SLIPS.len()] = slipped::CALLS;

@@ -36,7 +36,20 @@ pub fn calls(kind: Kind, seed: u64) -> String {
     list
 }
 
+/// Words of a line that the program `replay` reads.
+const LINE: usize = 64;
+
+/// A call whose line is read: of a region that is far too long there are too many words.
 fn call(r: &mut Rng, kind: Kind) -> Stored {
+    loop {
+        let call = any_call(r, kind);
+        if call.words().len() <= LINE {
+            return call;
+        }
+    }
+}
+
+fn any_call(r: &mut Rng, kind: Kind) -> Stored {
     let s = inputs::settings(r, kind);
     let mut region = inputs::region(r, kind, &s);
     if kind == Kind::MovingAverage && region.len() >= 8 {

@@ -7,7 +7,7 @@ const fn sheet(name: &'static str, text: &'static str, slipped: &'static str) ->
 }
 
 /// All slips of the sheet.
-pub const SHEET_SLIPS: [Slip; 29] = [
+pub const SHEET_SLIPS: [Slip; 35] = [
     sheet(
         "row numbers from 1",
         "SheetAnswer::refused(6, n)",
@@ -144,5 +144,35 @@ pub const SHEET_SLIPS: [Slip; 29] = [
         "the last row not updated",
         "        warning |= updated.warning;\n    }\n",
         "        warning |= updated.warning;\n        if n == 14 {\n            break;\n        }\n    }\n",
+    ),
+    sheet(
+        "a refused tick updates the rows above the one at fault",
+        "    let refused = tick_refusal(rows, tick, region, answers);\n    if refused.refusal != 0 {",
+        "    let refused = tick_refusal(rows, tick, region, answers);\n    if [6, 7].contains(&refused.refusal) {\n        for n in 0..refused.row as usize {\n            let (row, words) = (&rows[n], &mut region[stretch(rows, n)]);\n            super::update(row.kind, &row.settings, tick.time, &inputs(row, tick), words);\n        }\n    }\n    if refused.refusal != 0 {",
+    ),
+    sheet(
+        "a refused tick answers for the rows above the one at fault",
+        "    let refused = tick_refusal(rows, tick, region, answers);\n    if refused.refusal != 0 {",
+        "    let refused = tick_refusal(rows, tick, region, answers);\n    if [6, 7].contains(&refused.refusal) {\n        for n in 0..refused.row as usize {\n            let (row, words) = (&rows[n], &region[stretch(rows, n)]);\n            let emitted = super::emit(row.kind, &row.settings, tick.time, &inputs(row, tick), words);\n            answers[2 * n..2 * n + 2].copy_from_slice(&outputs(row.kind, &emitted));\n        }\n    }\n    if refused.refusal != 0 {",
+    ),
+    sheet(
+        "a region two words or more too long taken",
+        "region.len() != rows.iter().map(row_length).sum::<usize>()",
+        "region.len() < rows.iter().map(row_length).sum::<usize>()\n        || region.len() == 1 + rows.iter().map(row_length).sum::<usize>()",
+    ),
+    sheet(
+        "a region's length compared by its low byte",
+        "region.len() != rows.iter().map(row_length).sum::<usize>()",
+        "region.len() as u8 != rows.iter().map(row_length).sum::<usize>() as u8",
+    ),
+    sheet(
+        "an answer space a row or more too large taken",
+        "answers.len() != 2 * rows.len()",
+        "answers.len() < 2 * rows.len() || answers.len() % 2 == 1",
+    ),
+    sheet(
+        "an answer space's length compared by its low byte",
+        "answers.len() != 2 * rows.len()",
+        "answers.len() as u8 != (2 * rows.len()) as u8",
     ),
 ];

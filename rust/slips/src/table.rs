@@ -28,7 +28,7 @@ pub const fn slip(
 }
 
 /// All slips.
-pub const SLIPS: [Slip; 76] = [
+pub const SLIPS: [Slip; 92] = [
     slip(
         "NaN clamped to y_min",
         "Pid",
@@ -191,6 +191,20 @@ pub const SLIPS: [Slip; 76] = [
         "region[n] = s[9];",
         "region[n] = 0;",
     ),
+    slip(
+        "a direction read as 1",
+        "Pid",
+        "controller.rs",
+        "dir: if s[12] != 0 {",
+        "dir: if s[12] == 1 {",
+    ),
+    slip(
+        "a direction read by its low bit",
+        "PidWithReset",
+        "controller.rs",
+        "dir: if s[12] != 0 {",
+        "dir: if s[12] & 1 == 1 {",
+    ),
     // the leaves
     slip(
         "the filter explicit",
@@ -226,6 +240,27 @@ pub const SLIPS: [Slip; 76] = [
         "leaves.rs",
         "if x.is_nan() { CANONICAL } else { x.to_bits() }",
         "x.to_bits()",
+    ),
+    slip(
+        "a gap of -0.0 made 0.0",
+        "TrueDelay",
+        "leaves.rs",
+        "time - real_of(previous)",
+        "(time - real_of(previous)) + 0.0",
+    ),
+    slip(
+        "a gap of -0.0 made 0.0 where it is integrated",
+        "Pid",
+        "leaves.rs",
+        "let step = rate * gap;",
+        "let step = rate * (gap + 0.0);",
+    ),
+    slip(
+        "an integral of -0.0 made 0.0",
+        "MovingAverage",
+        "leaves.rs",
+        "    x + step",
+        "    x + step + 0.0",
     ),
     // the moving average
     slip(
@@ -432,6 +467,48 @@ pub const SLIPS: [Slip; 76] = [
         "region[4] = u64::from(real_of(s[0]) <= 0.0);",
         "region[4] = 0;",
     ),
+    slip(
+        "delay_on_init read as 1",
+        "TrueDelay",
+        "timers.rs",
+        "if s[1] != 0 && delay",
+        "if s[1] == 1 && delay",
+    ),
+    slip(
+        "delay_on_init read by its low bit",
+        "TrueDelay",
+        "timers.rs",
+        "if s[1] != 0 && delay",
+        "if s[1] & 1 == 1 && delay",
+    ),
+    slip(
+        "a total of -0.0 made 0.0",
+        "TimerAccumulating",
+        "timers.rs",
+        "total + tick_dt(time, w[1])",
+        "total + tick_dt(time, w[1]) + 0.0",
+    ),
+    slip(
+        "a delay's sum of -0.0 made 0.0",
+        "TrueDelay",
+        "timers.rs",
+        "let sum = real_of(w[0]) + tick_dt(time, w[1]);",
+        "let sum = real_of(w[0]) + tick_dt(time, w[1]) + 0.0;",
+    ),
+    slip(
+        "a hold's timer of -0.0 made 0.0",
+        "TrueFalseHold",
+        "timers.rs",
+        "let timer = real_of(w[1]) + tick_dt(time, w[2]);",
+        "let timer = real_of(w[1]) + tick_dt(time, w[2]) + 0.0;",
+    ),
+    slip(
+        "a run's timer of -0.0 made 0.0",
+        "TrueHoldWithReset",
+        "timers.rs",
+        "let run = real_of(w[1]) + tick_dt(time, w[2]);",
+        "let run = real_of(w[1]) + tick_dt(time, w[2]) + 0.0;",
+    ),
     // the pulse
     slip(
         "a pulse's timer forgets",
@@ -511,6 +588,20 @@ pub const SLIPS: [Slip; 76] = [
         "        return Answer::refused(refused);\n    }\n    let mut answer",
         "        return Answer { boolean: true, ..Answer::refused(refused) };\n    }\n    let mut answer",
     ),
+    slip(
+        "a region two words or more too long taken",
+        "Pid",
+        "refusals.rs",
+        "} else if region.len() != length(kind, s) {",
+        "} else if region.len() < length(kind, s) || region.len() == length(kind, s) + 1 {",
+    ),
+    slip(
+        "lengths compared by their low bytes",
+        "MovingAverage",
+        "refusals.rs",
+        "} else if region.len() != length(kind, s) {",
+        "} else if region.len() as u8 != length(kind, s) as u8 {",
+    ),
     // sound, decoding and runs
     slip(
         "any ring is sound",
@@ -567,5 +658,26 @@ pub const SLIPS: [Slip; 76] = [
         "mod.rs",
         "let ticks = ticks.iter();",
         "let ticks = ticks.iter().filter(|t| !real_of(t[0]).is_nan());",
+    ),
+    slip(
+        "a run answers refused settings tick by tick",
+        "TrueDelay",
+        "mod.rs",
+        "        return Err(number);",
+        "        return Ok(vec![Answer::refused(number); ticks.len()]);",
+    ),
+    slip(
+        "a run on refused settings answers 0",
+        "TrueDelay",
+        "mod.rs",
+        "        return Err(number);",
+        "        return Err(0);",
+    ),
+    slip(
+        "a run refused with its first tick",
+        "TrueFalseHold",
+        "mod.rs",
+        "let number = refusals::start_refusal(kind, s, region);",
+        "let number = refusal(kind, s, region, ticks.first().map(|tick| tick[0]));",
     ),
 ];

@@ -37,5 +37,5 @@ fn every_slip_shows_in_the_stored_calls() {
             elsewhere += 1;
         }
     }
-    assert_eq!(elsewhere, 10, "slips of the other calls in the table");
+    assert_eq!(elsewhere, 13, "slips of the other calls in the table");
 }

@@ -11,7 +11,7 @@ returns : tie.Need-returns
 unfolding machineFor
 returns c = let at-args = c .before .before .before in
     let M = machine (at-args .args .settings) in
-    sound-number decoded M stateOf _ refl (decode-number decoded M stateOf _ (c .before .decode .ensures) (c .number-of .ensures))
+    sound-number decoded M stateOf _ refl (decode-number decoded M stateOf _ (c .before .decode .ensures .0) (c .number-of .ensures))
 
 pub sound-spec : {M : Type 1} → statement M
 sound-spec = tie.close (tie.spec (λ c κs. search needs) (λ c κs. search needs) returns)

@@ -7,7 +7,7 @@ use crate::model::leaves::{is_finite, real_of};
 use crate::oracle::Oracle;
 use crate::ring::Ring;
 use crate::tally::{Class, Tally};
-use crate::{Answer, Calls, Kind};
+use crate::{Answer, Calls, Kind, TickWords};
 
 const KIND: Kind = Kind::MovingAverage;
 
@@ -108,7 +108,7 @@ struct LongRun<'a> {
     mine: Vec<u64>,
     theirs: Vec<u64>,
     /// The ticks so far, and what each answers.
-    ticks: Vec<[u64; 4]>,
+    ticks: Vec<TickWords>,
     answers: Vec<Answer>,
 }
 
@@ -141,7 +141,7 @@ impl LongRun<'_> {
         let (s, mut region) = (&self.settings, vec![7; self.theirs.len()]);
         (self.subject.start)(KIND, s, &mut region);
         let answers = (self.subject.run)(KIND, s, &self.ticks, &mut region);
-        let differs = answers != self.answers || region != self.theirs;
+        let differs = answers.as_ref() != Ok(&self.answers) || region != self.theirs;
         differs.then(|| "the ticks in one call differ".into())
     }
 

@@ -6,6 +6,7 @@ mod settings;
 mod ticks;
 pub mod wide;
 
+pub(crate) use reals::MINUS_ZERO;
 pub use reals::{NOT_FINITE, any_bool, any_real, next_down, next_up, tame, wild};
 pub use regions::region;
 pub use rng::Rng;

@@ -103,8 +103,10 @@ pub fn next_down(x: f64) -> f64 {
     -next_up(-x)
 }
 
+pub(crate) const MINUS_ZERO: u64 = 1 << 63;
+
 pub(super) fn zero(r: &mut Rng) -> u64 {
-    r.below(2) << 63
+    r.pick(&[0, MINUS_ZERO])
 }
 
 pub(super) fn infinity(r: &mut Rng) -> u64 {

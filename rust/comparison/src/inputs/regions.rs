@@ -1,11 +1,12 @@
 //! State words of every sort.
-use super::reals::{wild, zero};
+use super::reals::{MINUS_ZERO, wild, zero};
 use super::{Rng, any_bool, any_real, tame};
+use crate::lengths::other_length;
 use crate::model::leaves::UNSET;
 use crate::{Kind, model};
 
-/// A region for the settings: one in five freshly started, the rest of any words, one in 25 of a
-/// wrong length.
+/// A region for the settings: one in five freshly started, the rest of any words, and of these one in eight at rest at zero; one
+/// in 25 of a wrong length.
 pub fn region(r: &mut Rng, kind: Kind, s: &[u64]) -> Vec<u64> {
     region_with(r, kind, s, any_points)
 }
@@ -32,17 +33,20 @@ pub(super) fn region_with(
     if r.one_in(5) {
         model::start(kind, s, &mut w);
     } else {
+        let rests = r.one_in(8);
         for (n, item) in kind.words(s).bytes().enumerate() {
-            w[n] = any_word(r, item);
+            w[n] = if rests {
+                resting_word(r, item)
+            } else {
+                any_word(r, item)
+            };
         }
         if kind == Kind::MovingAverage {
             fill_ring(r, &mut w, |r, w| points(r, s, w));
         }
     }
-    match r.below(50) {
-        0 => w.push(0),
-        1 => drop(w.pop()),
-        _ => {}
+    if r.one_in(25) {
+        w.resize(other_length(r, length), 0);
     }
     w
 }
@@ -53,6 +57,15 @@ fn any_word(r: &mut Rng, item: u8) -> u64 {
         b'b' => any_bool(r),
         b't' => previous_time(r),
         _ => 0,
+    }
+}
+
+/// The previous time is 0.0 and every real -0.0: a tick at -0.0 then adds one -0.0 to another.
+fn resting_word(r: &mut Rng, item: u8) -> u64 {
+    match item {
+        b'r' => MINUS_ZERO,
+        b't' => 0,
+        _ => any_word(r, item),
     }
 }
 

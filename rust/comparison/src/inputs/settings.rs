@@ -1,9 +1,9 @@
 //! Settings in source order.
 use super::reals::{NANS, infinity, tame, wild, zero};
-use super::{Rng, any_real};
+use super::{Rng, any_bool, any_real};
 use crate::{Kind, model};
 
-/// Settings of which one in 60 has a number that is not finite.
+/// Settings of which one in 60 has a number that is not finite. Their booleans are any words.
 pub fn settings(r: &mut Rng, kind: Kind) -> Vec<u64> {
     let s = finite_settings(r, kind);
     spoiled(r, kind, s)
@@ -48,7 +48,7 @@ fn finite_settings(r: &mut Rng, kind: Kind) -> Vec<u64> {
     let calm = !r.one_in(4);
     let item = |item| match item {
         b'c' => r.below(4),
-        b'b' => r.below(2),
+        b'b' => any_bool(r),
         _ if calm => tame(r).to_bits(),
         _ => wild(r).to_bits(),
     };

@@ -1,5 +1,5 @@
 //! The time and the inputs of a tick.
-use super::reals::{NANS, infinity, wild};
+use super::reals::{MINUS_ZERO, NANS, infinity, wild};
 use super::{Rng, any_bool, any_real};
 use crate::Kind;
 use crate::model::leaves::UNSET;
@@ -27,6 +27,9 @@ pub fn tick_time(r: &mut Rng, kind: Kind, s: &[u64], region: &[u64]) -> u64 {
     }
     let place = kind.time_place(s);
     let word = place.and_then(|n| region.get(n)).copied();
+    if word == Some(0) && r.one_in(2) {
+        return MINUS_ZERO; // equal to it, and the gap is -0.0
+    }
     let previous = word.map(f64::from_bits).filter(|t| t.is_finite());
     time_after(r, previous.unwrap_or(0.0))
 }

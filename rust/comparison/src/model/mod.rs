@@ -9,7 +9,7 @@ pub mod sheet;
 mod state;
 mod timers;
 
-use crate::{Answer, Calls, Kind};
+use crate::{Answer, Calls, Kind, TickWords};
 use leaves::{UNSET, real_of, word_of};
 use timers::Step;
 
@@ -111,10 +111,20 @@ pub fn tick(kind: Kind, s: &[u64], time: u64, inputs: &[u64], region: &mut [u64]
     Answer { warning, ..emitted }
 }
 
-/// Whole ticks in their order; a refused one changes nothing, and the next goes on.
-pub fn run(kind: Kind, s: &[u64], ticks: &[[u64; 4]], region: &mut [u64]) -> Vec<Answer> {
+/// Whole ticks in their order: one that is refused changes nothing, and the next goes on. Settings and a length that are refused
+/// refuse the run.
+pub fn run(
+    kind: Kind,
+    s: &[u64],
+    ticks: &[TickWords],
+    region: &mut [u64],
+) -> Result<Vec<Answer>, u64> {
+    let number = refusals::start_refusal(kind, s, region);
+    if number != 0 {
+        return Err(number);
+    }
     let ticks = ticks.iter();
-    ticks
+    Ok(ticks
         .map(|[time, inputs @ ..]| tick(kind, s, *time, inputs, region))
-        .collect()
+        .collect())
 }

@@ -1,7 +1,8 @@
 //! What a comparison of sheets meets.
-use crate::Kind;
+use crate::lengths::Off;
 use crate::sheet::{BLOCKS, NO_BLOCK, Row, rows_of};
-use crate::tally::met;
+use crate::tally::{Word, met};
+use crate::{Kind, model};
 
 use super::{Call, Fault, Left};
 
@@ -29,6 +30,11 @@ pub enum SheetClass {
     TooManyRows,
     /// Columns above 7, but none that a block reads.
     UnreadColumn,
+    /// A boolean setting of a row in an accepted tick.
+    BooleanSetting(Word),
+    /// A region or an answer space refused for its length: how far it is off.
+    RegionLength(Off),
+    AnswersLength(Off),
     /// A refusal of this number that names another row than the first.
     Lower(u64),
     /// A refusal of this number with several rows at fault for it.
@@ -56,6 +62,9 @@ pub fn expected_classes() -> Vec<SheetClass> {
     wanted.extend([1, 2, 3, 4, 5, 6, 7, NO_BLOCK].map(TickRefused));
     wanted.extend((1..=16).map(Rows));
     wanted.extend(BLOCKS.map(Block));
+    wanted.extend(Word::ALL.map(BooleanSetting));
+    wanted.extend(Off::ALL.map(RegionLength));
+    wanted.extend(Off::ALL.map(AnswersLength));
     wanted.extend([2, 6, 7].map(Lower));
     wanted.extend([2, 6, 7].map(Several));
     wanted
@@ -71,7 +80,23 @@ pub(super) fn classes(call: &Call, faults: &[Fault], due: &Left) -> Vec<SheetCla
         (n, Some(_)) => vec![TickRefused(n)],
     };
     classes.extend(refused(&rows, faults, due));
+    classes.extend(lengths(&rows, call, due.answer.refusal));
     classes
+}
+
+/// How far the refused length is off.
+fn lengths(rows: &[Row], call: &Call, refused: u64) -> Vec<SheetClass> {
+    let length = |row: &Row| model::state_length(row.kind, &row.settings).1;
+    let region = rows.iter().map(length).sum();
+    match refused {
+        3 => Off::of(call.region.len(), region)
+            .map(RegionLength)
+            .collect(),
+        4 => Off::of(call.answers.len(), 2 * rows.len())
+            .map(AnswersLength)
+            .collect(),
+        _ => vec![],
+    }
 }
 
 fn accepted(rows: &[Row], due: &Left) -> Vec<SheetClass> {
@@ -89,6 +114,10 @@ fn accepted(rows: &[Row], due: &Left) -> Vec<SheetClass> {
         > 0;
     let mut classes = vec![Ticked, Rows(rows.len())];
     classes.extend(rows.iter().map(|row| Block(row.kind)));
+    let booleans = rows
+        .iter()
+        .flat_map(|row| Word::settings(row.kind, &row.settings));
+    classes.extend(booleans.map(BooleanSetting));
     classes.extend(met([
         (SharedColumn, shared),
         (Warned, due.answer.warning),

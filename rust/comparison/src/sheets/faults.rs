@@ -1,6 +1,7 @@
 //! Faults planted in a call that was accepted: each stands for one refusal number.
 use crate::Kind;
 use crate::inputs::{NOT_FINITE, Rng, next_up};
+use crate::lengths::other_length;
 use crate::model;
 use crate::sheet::{NO_BLOCK, ROW_WORDS, SETTINGS, rows_of};
 
@@ -45,8 +46,8 @@ fn put(r: &mut Rng, call: &mut Call, fault: Fault) -> bool {
     match (fault.number, &mut call.tick) {
         (1, _) => spoil_form(r, &mut call.rows, fault.row),
         (2, _) => spoil_setting(r, &mut call.rows[fault.row * ROW_WORDS..]),
-        (3, _) => change_length(r, &mut call.region),
-        (4, Some(_)) => change_length(r, &mut call.answers),
+        (3, _) => call.region.resize(other_length(r, call.region.len()), 7),
+        (4, Some(_)) => call.answers.resize(other_length(r, call.answers.len()), 7),
         (5, Some(tick)) => tick.time = r.pick(&[&NOT_FINITE[..], &[u64::MAX]].concat()),
         (6, tick) => {
             let tested = tick.is_some(); // a start tests no words
@@ -83,20 +84,6 @@ fn spoil_setting(r: &mut Rng, row: &mut [u64]) {
     let kind = Kind::ALL[row[0] as usize];
     let reals: Vec<_> = kind.settings().match_indices('r').collect();
     row[SETTINGS + r.pick(&reals).0] = r.pick(&NOT_FINITE);
-}
-
-/// One or two words more or less, none, or twice as many and one.
-fn change_length(r: &mut Rng, words: &mut Vec<u64>) {
-    let length = words.len();
-    let other = match r.below(6) {
-        0 => 0,
-        1 => 2 * length + 1,
-        2 => length + 2,
-        3 => length.saturating_sub(2),
-        4 => length + 1,
-        _ => length.saturating_sub(1),
-    };
-    words.resize(if other == length { length + 1 } else { other }, 7);
 }
 
 /// A number of no block, a type of no controller, or words that are not seventeen each.

@@ -12,7 +12,7 @@ use std::time::Instant;
 
 use comparison::bench::driver::{asked, assert_alike};
 use comparison::bench::{Case, Prepared, Published, cases};
-use rattle::boundary::{self, AnswerWords, Tick};
+use rattle::boundary::{self, ANSWER_WORDS, AnswerWords, Tick};
 
 /// Ticks that are prepared for a tool that counts, of which it runs N; of walks, which are long, fewer.
 const PREPARED: u64 = 3000;
@@ -35,7 +35,7 @@ impl Proved {
     }
 
     #[inline(never)]
-    fn run(&mut self, ticks: &[Tick], answers: &mut [[u64; 4]]) {
+    fn run(&mut self, ticks: &[Tick], answers: &mut [[u64; ANSWER_WORDS]]) {
         let (ticks, answers) = (ticks.as_flattened(), answers.as_flattened_mut());
         let refused = boundary::run(self.block, &self.settings, ticks, &mut self.region, answers);
         assert_eq!(refused, 0);
@@ -104,7 +104,7 @@ fn side(case: &Case, name: &str) -> Option<Side> {
         ("published", _) => Some(published(case)),
         ("run", false) => Some(storing(
             move |t, a| proved.run(t, a),
-            |a: &[u64; 4]| [a[0], a[1], a[2]],
+            |a: &[u64; ANSWER_WORDS]| [a[0], a[1], a[2]],
         )),
         ("tick", false) => Some(storing(
             move |t, a| proved.ticks(t, a),

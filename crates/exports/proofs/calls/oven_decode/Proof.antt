@@ -12,7 +12,7 @@ returns c = rw (← c .before .before .before .block-of .ensures, c .before .enu
 
 returns-2 : tie.Need-returns-2
 unfolding byName
-returns-2 c = rw (← c .before .before .before .before .before .block-of .ensures, c .before .before .before .named .given .1) (c .decoded-words .ensures ∙ ap decodedWords (c .before .decode .ensures))
+returns-2 c = rw (← c .before .before .before .before .before .block-of .ensures, c .before .before .before .named .given .1) (c .decoded-words .ensures ∙ ap decodedWords (c .before .decode .ensures .0))
 
 pub oven-decode-spec : {M : Type 1} → statement M
 oven-decode-spec = tie.close (tie.spec (λ c κs. search needs) (λ c. search needs) (λ c. search needs) (λ c κs. search needs) returns (λ c κs. search needs) (λ c κs. search needs) returns-2)

@@ -1,4 +1,4 @@
--- `asked_at` reads the tick that four words say. Assumes nothing.
+-- `asked_at` reads the tick of a number. Assumes nothing.
 use borrow.Author.Needs.{needs}
 use Rattle.runs.proofs.words.asked_at.Statement.{statement}
 use Rattle.runs.proofs.words.asked_at.Tie as tie
@@ -10,6 +10,7 @@ pub asked-at-spec : {M : Type 1} → statement M
 asked-at-spec =
     tie.close
     (tie.spec
+    (λ c. search needs)
     (λ c. search needs)
     (λ c. search needs)
     (λ c κs. search needs)

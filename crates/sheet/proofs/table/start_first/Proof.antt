@@ -40,6 +40,7 @@ use denote.Triple.Spec.{Meets, tripleOf}
 use denote.Triple.Table.{entered, cited}
 use denote.Triple.Walked.{says, needs, Stays, stay-dropped, gave-slice, walkOf, AllGo, goes-dropped, goes-gave-slice, Walks, ends-at, walked, walk-meets}
 use denote.Exit.{yes}
+use Rattle.sheet.specs.Table.{tableRows}
 use Rattle.sheet.specs.Sheet.{SheetStarted}
 use Rattle.sheet.specs.declared.row.Row.{Row}
 use Rattle.sheet.specs.declared.row.SheetAnswer.{SheetAnswer}
@@ -58,7 +59,7 @@ use Rattle.sheet.proofs.table.start_first.Statement as stated
 use Rattle.sheet.proofs.table.start_first.Code as code
 
 abbrev stayed : Stays (start-first.ended .signature .params) (start-first.ended .kept)
-stayed = (stay-dropped (arrayOf (plain (λ _. R.the-row)) 17) yes, (stay-dropped (plain (λ _. usize)) yes, (gave-slice (0 ∷ []) tt (plain (λ _. u64)), tt)))
+stayed = (stay-dropped (arrayOf (plain (λ _. R.the-row)) tableRows) yes, (stay-dropped (plain (λ _. usize)) yes, (gave-slice (0 ∷ []) tt (plain (λ _. u64)), tt)))
 
 module _ {M : Type 1} (𝓤 : URA M) (H : Heap 𝓤) (A : Atoms 𝓤) (mem : Memory → SProp 𝓤) (run : Routine → Fun 𝓤) where
   -- the contract that the proof cites
@@ -108,7 +109,7 @@ module _ {M : Type 1} (𝓤 : URA M) (H : Heap 𝓤) (A : Atoms 𝓤) (W : Given
       frame ! $ nothing ! $ move ! (1 ∷ 0 ∷ []) $ fjoin ! $ nothing ! $ fjoin ! $ nothing ! $ fjoin ! $ frame ! $ done !
 
   module _ (C : Calls 𝓤 H) (Λ : Loops 𝓤 H) (fm : FmC 𝓤 H (W .laws) C) (known : Triple 𝓤 (C #sheet·start) (Starts 𝓤 H A mem run)) where
-    walk : n ≤ 17 → Is Rows xs (v ∷ []) → n < 2 ^ 64 → Room u64 (length (x .now))
+    walk : n ≤ tableRows → Is Rows xs (v ∷ []) → n < 2 ^ 64 → Room u64 (length (x .now))
         → ent 𝓤 (onEntry 𝓤 H A start-first.signature (κ, tt) (q, tt) (xs, (n, (x, tt))) (v ∷ [], (vint w64 n ∷ [], (w ∷ [], tt)))) (WpFn 𝓤 H C Λ code.function (v ∷ vint w64 n ∷ w ∷ []) Post)
     walk le p fits room =
         let len = p .1 .0 .1 in
@@ -143,10 +144,10 @@ module _ {M : Type 1} (𝓤 : URA M) (H : Heap 𝓤) (A : Atoms 𝓤) (W : Given
   first-walks : Walks 𝓤 H A start-first.ended stayed (WpFn 𝓤 H (𝓣 .C) (𝓣 .Λ) code.function) (start-first.clauses 𝓤 H A mem run)
   first-walks = walked 𝓤 H A start-first.ended stayed (start-first.clauses 𝓤 H A mem run) (WpFn 𝓤 H (𝓣 .C) (𝓣 .Λ) code.function) (λ κs. (rowsVals, (uint-vals w64, (slice-vals, tt))))
       (λ κs. (rows-tell, (uint-tells w64, (mut-slice-tells (named 0) (κs .0) u64, tt))))
-      (λ κs qs bounds a g are. needs 𝓤 (a .1 .0 ≤ 17) _ (λ le. walk 𝓤 H A W mem run (κs .0) (qs .0) (a .0) (a .1 .0) (a .1 .1 .0) (𝓣 .C) (𝓣 .Λ) (fmOf 𝓤 H (W .laws) 𝓣) known le (are .0) (are .1 .0 .1) (are .1 .1 .0 .0 .1)))
+      (λ κs qs bounds a g are. needs 𝓤 (a .1 .0 ≤ tableRows) _ (λ le. walk 𝓤 H A W mem run (κs .0) (qs .0) (a .0) (a .1 .0) (a .1 .1 .0) (𝓣 .C) (𝓣 .Λ) (fmOf 𝓤 H (W .laws) 𝓣) known le (are .0) (are .1 .0 .1) (are .1 .1 .0 .0 .1)))
 
   goes : AllGo 𝓤 H A W 1 (start-first.signature .params) (start-first.ended .kept) stayed
-  goes = (goes-dropped 𝓤 H A W 1 (arrayOf (plain (λ _. R.the-row)) 17) yes (λ κs x f. refl), (goes-dropped 𝓤 H A W 1 (plain (λ _. usize)) yes (λ κs x f. refl), (goes-gave-slice 𝓤 H A W 1 0 tt (plain (λ _. u64)), tt)))
+  goes = (goes-dropped 𝓤 H A W 1 (arrayOf (plain (λ _. R.the-row)) tableRows) yes (λ κs x f. refl), (goes-dropped 𝓤 H A W 1 (plain (λ _. usize)) yes (λ κs x f. refl), (goes-gave-slice 𝓤 H A W 1 0 tt (plain (λ _. u64)), tt)))
 
   first-meets : Meets 𝓤 H A start-first.signature (WpFn 𝓤 H (𝓣 .C) (𝓣 .Λ) code.function) (start-first.spec 𝓤 H A mem run)
   first-meets = walk-meets 𝓤 H A start-first.ended stayed W goes (start-first.clauses 𝓤 H A mem run) (WpFn 𝓤 H (𝓣 .C) (𝓣 .Λ) code.function) (WpFn-mono 𝓤 H (W .laws) 𝓣 code.function) first-walks

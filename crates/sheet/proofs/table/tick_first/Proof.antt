@@ -43,6 +43,7 @@ use denote.Exit.{yes}
 use Rattle.blocks.specs.declared.block.Tick.{Tick}
 use Rattle.blocks.proofs.block.Tick as K
 use Rattle.blocks.proofs.block.Tick.Laws as K′
+use Rattle.sheet.specs.Table.{tableRows}
 use Rattle.sheet.specs.Sheet.{SheetTicked}
 use Rattle.sheet.specs.declared.row.Row.{Row}
 use Rattle.sheet.specs.declared.row.SheetAnswer.{SheetAnswer}
@@ -61,7 +62,7 @@ use Rattle.sheet.proofs.table.tick_first.Statement as stated
 use Rattle.sheet.proofs.table.tick_first.Code as code
 
 abbrev stayed : Stays (tick-first.ended .signature .params) (tick-first.ended .kept)
-stayed = (stay-dropped (arrayOf (plain (λ _. R.the-row)) 17) yes, (stay-dropped (plain (λ _. usize)) yes, (stay-dropped (plain (λ _. K.the-row)) yes, (gave-slice (0 ∷ []) tt (plain (λ _. u64)), (gave-slice (1 ∷ []) tt (plain (λ _. u64)), tt)))))
+stayed = (stay-dropped (arrayOf (plain (λ _. R.the-row)) tableRows) yes, (stay-dropped (plain (λ _. usize)) yes, (stay-dropped (plain (λ _. K.the-row)) yes, (gave-slice (0 ∷ []) tt (plain (λ _. u64)), (gave-slice (1 ∷ []) tt (plain (λ _. u64)), tt)))))
 
 module _ {M : Type 1} (𝓤 : URA M) (H : Heap 𝓤) (A : Atoms 𝓤) (mem : Memory → SProp 𝓤) (run : Routine → Fun 𝓤) where
   -- the contract that the proof cites
@@ -117,7 +118,7 @@ module _ {M : Type 1} (𝓤 : URA M) (H : Heap 𝓤) (A : Atoms 𝓤) (W : Given
       frame ! $ nothing ! $ move ! (2 ∷ 0 ∷ []) $ fjoin ! $ move ! (1 ∷ 0 ∷ []) $ fjoin ! $ nothing ! $ fjoin ! $ nothing ! $ fjoin ! $ nothing ! $ fjoin ! $ frame ! $ done !
 
   module _ (C : Calls 𝓤 H) (Λ : Loops 𝓤 H) (fm : FmC 𝓤 H (W .laws) C) (known : Triple 𝓤 (C #sheet·tick) (Ticks 𝓤 H A mem run)) where
-    walk : n ≤ 17 → Is Rows xs (v ∷ []) → n < 2 ^ 64 → Is K.the-row k (m ∷ []) → Room u64 (length (x .now)) → Room u64 (length (z .now))
+    walk : n ≤ tableRows → Is Rows xs (v ∷ []) → n < 2 ^ 64 → Is K.the-row k (m ∷ []) → Room u64 (length (x .now)) → Room u64 (length (z .now))
         → ent 𝓤 (onEntry 𝓤 H A tick-first.signature (κ, (κ″, tt)) (q, (q″, tt)) (xs, (n, (k, (x, (z, tt))))) (v ∷ [], (vint w64 n ∷ [], (m ∷ [], (w ∷ [], (a ∷ [], tt)))))) (WpFn 𝓤 H C Λ code.function (v ∷ vint w64 n ∷ m ∷ w ∷ a ∷ []) Post)
     walk le p fits pk room room′ =
         let len = p .1 .0 .1 in
@@ -157,11 +158,11 @@ module _ {M : Type 1} (𝓤 : URA M) (H : Heap 𝓤) (A : Atoms 𝓤) (W : Given
   first-walks : Walks 𝓤 H A tick-first.ended stayed (WpFn 𝓤 H (𝓣 .C) (𝓣 .Λ) code.function) (tick-first.clauses 𝓤 H A mem run)
   first-walks = walked 𝓤 H A tick-first.ended stayed (tick-first.clauses 𝓤 H A mem run) (WpFn 𝓤 H (𝓣 .C) (𝓣 .Λ) code.function) (λ κs. (rowsVals, (uint-vals w64, (LL.vals K.the-type K′.the-laws, (slice-vals, (slice-vals, tt))))))
       (λ κs. (rows-tell, (uint-tells w64, (LL.tells K.the-type K′.the-laws, (mut-slice-tells (named 0) (κs .0) u64, (mut-slice-tells (named 1) (κs .1 .0) u64, tt))))))
-      (λ κs qs bounds a g are. needs 𝓤 (a .1 .0 ≤ 17) _ (λ le. walk 𝓤 H A W mem run (κs .0) (κs .1 .0) (qs .0) (qs .1 .0) (a .0) (a .1 .0) (a .1 .1 .0) (a .1 .1 .1 .0) (a .1 .1 .1 .1 .0) (𝓣 .C) (𝓣 .Λ) (fmOf 𝓤 H (W .laws) 𝓣) known
+      (λ κs qs bounds a g are. needs 𝓤 (a .1 .0 ≤ tableRows) _ (λ le. walk 𝓤 H A W mem run (κs .0) (κs .1 .0) (qs .0) (qs .1 .0) (a .0) (a .1 .0) (a .1 .1 .0) (a .1 .1 .1 .0) (a .1 .1 .1 .1 .0) (𝓣 .C) (𝓣 .Λ) (fmOf 𝓤 H (W .laws) 𝓣) known
       le (are .0) (are .1 .0 .1) (are .1 .1 .0) (are .1 .1 .1 .0 .0 .1) (are .1 .1 .1 .1 .0 .0 .1)))
 
   goes : AllGo 𝓤 H A W 2 (tick-first.signature .params) (tick-first.ended .kept) stayed
-  goes = (goes-dropped 𝓤 H A W 2 (arrayOf (plain (λ _. R.the-row)) 17) yes (λ κs x f. refl), (goes-dropped 𝓤 H A W 2 (plain (λ _. usize)) yes (λ κs x f. refl), (goes-dropped 𝓤 H A W 2 (plain (λ _. K.the-row)) yes (λ κs x f. refl), (goes-gave-slice 𝓤 H A W 2 0 tt (plain (λ _. u64)), (goes-gave-slice 𝓤 H A W 2 1 tt (plain (λ _. u64)), tt)))))
+  goes = (goes-dropped 𝓤 H A W 2 (arrayOf (plain (λ _. R.the-row)) tableRows) yes (λ κs x f. refl), (goes-dropped 𝓤 H A W 2 (plain (λ _. usize)) yes (λ κs x f. refl), (goes-dropped 𝓤 H A W 2 (plain (λ _. K.the-row)) yes (λ κs x f. refl), (goes-gave-slice 𝓤 H A W 2 0 tt (plain (λ _. u64)), (goes-gave-slice 𝓤 H A W 2 1 tt (plain (λ _. u64)), tt)))))
 
   first-meets : Meets 𝓤 H A tick-first.signature (WpFn 𝓤 H (𝓣 .C) (𝓣 .Λ) code.function) (tick-first.spec 𝓤 H A mem run)
   first-meets = walk-meets 𝓤 H A tick-first.ended stayed W goes (tick-first.clauses 𝓤 H A mem run) (WpFn 𝓤 H (𝓣 .C) (𝓣 .Λ) code.function) (WpFn-mono 𝓤 H (W .laws) 𝓣 code.function) first-walks

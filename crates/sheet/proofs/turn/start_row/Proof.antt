@@ -11,28 +11,33 @@ use Rattle.sheet.proofs.turn.start_row.Statement.{statement}
 use Rattle.sheet.proofs.turn.start_row.Tie as tie
 
 returns : tie.Need-returns
-returns c = let a = c .before .before .before .before .args in starts-none (a .row) (a .walk) (a .region .now) [] _ (sym (c .before .lies .ensures) ∙ not-true (c .before .lies .result) (c .if1 .taken)) (ap (λ (l : Length). l .length) (c .before .before .state-length .ensures))
-
-add-end : tie.Need-add-end
-add-end c =
-    let start = c .before .before .before .before .before in
-    let a = start .args in record { fits = omega (arith, leb-true _ (length (a .region .now)) (sym (c .before .before .lies .ensures) ∙ not-false (c .before .before .lies .result) (c .before .if1 .left)), start .good) }
-
-mul-start : tie.Need-mul-start
-mul-start c =
-    let start = c .before .before .before .before .before in
-    let a = start .args in record { fits = omega (arith, leb-true _ (length (a .region .now)) (sym (c .before .before .lies .ensures) ∙ not-false (c .before .before .lies .result) (c .before .if1 .left)), start .good) }
+returns c =
+    let at-lies = c .before in
+    let at-length = at-lies .before in
+    let a = at-length .before .before .args in
+    starts-none (a .row) (a .walk) (a .region .now) [] _ (ap (λ (l : Length). l .length) (at-length .state-length .ensures)) (sym (at-lies .lies .ensures) ∙ not-true (at-lies .lies .result) (c .if1 .taken))
 
 part-start-end : tie.Need-part-start-end
-part-start-end c = let a = c .before .before .before .before .before .args in leb-true _ (length (a .region .now)) (sym (c .before .before .lies .ensures) ∙ not-false (c .before .before .lies .result) (c .before .if1 .left))
+part-start-end c =
+    let at-if1 = c .before in
+    let at-lies = at-if1 .before in
+    let a = at-lies .before .before .before .args in
+    leb-true _ (length (a .region .now)) (sym (at-lies .lies .ensures) ∙ not-false (at-lies .lies .result) (at-if1 .if1 .left))
+
+add-end : tie.Need-add-end
+add-end c = record { fits = omega (arith, part-start-end c, c .before .before .before .before .before .good) }
+
+mul-start : tie.Need-mul-start
+mul-start c = record { fits = omega (arith, part-start-end c, c .before .before .before .before .before .good) }
 
 returns-2 : tie.Need-returns-2
 returns-2 c =
     let at-if1 = c .before .before .before .before .before .before in
     let at-lies = at-if1 .before in
-    let at-state-length = at-lies .before in
-    let start = at-state-length .before .before in
-    let a = start .args in starts-row (a .row) (a .walk) (a .region .now) [] _ (sym (at-lies .lies .ensures) ∙ not-false (at-lies .lies .result) (at-if1 .if1 .left)) (ap (λ (l : Length). l .length) (at-state-length .state-length .ensures)) _ _ _ (c .before .before .before .start .ensures) (c .moved-to .ensures)
+    let at-length = at-lies .before in
+    let a = at-length .before .before .args in
+    starts-row (a .row) (a .walk) (a .region .now) [] _ (ap (λ (l : Length). l .length) (at-length .state-length .ensures)) (sym (at-lies .lies .ensures) ∙ not-false (at-lies .lies .result) (at-if1 .if1 .left))
+    _ _ _ (c .before .before .before .start .ensures) (c .moved-to .ensures)
 
 pub start-row-spec : {M : Type 1} → statement M
 start-row-spec =

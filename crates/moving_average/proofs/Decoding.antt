@@ -13,7 +13,7 @@ use lib.Ieee.Fits.{and-l, and-r}
 use Rattle.dynamics.specs.Previous.{unset, previousOf, soundPrevious}
 use Rattle.dynamics.specs.Answer.{formRefusal, timeRefusal}
 use Rattle.dynamics.specs.Region.{Gives}
-use Rattle.dynamics.specs.Machine.{sized, startRefusal, startedWords, decodeRefusal, tickRefusal}
+use Rattle.dynamics.specs.Machine.{sized, startRefusal, startedWords, tickRefusal}
 use Rattle.dynamics.specs.declared.call.Inputs.{Inputs}
 use Rattle.dynamics.proofs.Calls.{start-accepted, start-sized, tick-sized, tick-decodes}
 use Rattle.dynamics.proofs.Opening.{Enum, Decodes, fine}

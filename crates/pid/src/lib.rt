@@ -23,7 +23,6 @@ use reals::flag_of;
 use reals::real_of;
 pub use state::Decoded;
 pub use state::number_of;
-use state::previous_in;
 use state::state_len;
 use state::state_of;
 use state::write;

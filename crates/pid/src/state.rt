@@ -11,7 +11,6 @@ use dynamics::word_of_previous;
 use reals::word_of;
 use reals::word_of_flag;
 ghost use mathlib.Core.Path.{_≡_};
-ghost use mathlib.Core.Bool.{false};
 ghost use Rattle.dynamics.specs.Region.{stored};
 ghost use Rattle.pid.specs.Pid.{stateLength, stateOf, wordsOf, reads};
 
@@ -74,19 +73,6 @@ pub(crate) fn state_of(region: &[u64], settings: ControllerConfig, with_reset: b
             filter: real_at(region, 2),
             trigger: with_reset & flag_at(region, 3),
         },
-    }
-}
-
-// The previous time in a region's words.
-pub(crate) fn previous_in(region: &[u64], settings: ControllerConfig) -> Previous
-    ensures { λ r. ⌜ r ≡ stateOf (settings .«controller_type») false (now (region .entry)) .previous ⌝ }
-{
-    let controller_type = settings.controller_type;
-    match controller_type {
-        ControllerType::P => Previous::Unset,
-        ControllerType::Pi => previous_at(region, 1),
-        ControllerType::Pd => previous_at(region, 0),
-        ControllerType::Pid => previous_at(region, 1),
     }
 }
 

@@ -12,7 +12,7 @@ use Rattle.dynamics.specs.Machine.{Machine, lengthAnswer, startRefusal}
 use Rattle.dynamics.specs.declared.call.Length.{Length}
 use Rattle.dynamics.proofs.Accepted as call
 use Rattle.dynamics.proofs.Calls.{length-0, length-2}
-use Rattle.runs.specs.Run.{wordsPerTick, wordsPerAnswer, ticksIn, asked, ranWords, ranAnswers, answerEach, badTicks, runRefusal, Runs}
+use Rattle.runs.specs.Run.{wordsPerTick, asked, ranWords, ranAnswers, answerEach, badTicks, runRefusal, Runs}
 
 -- ---- the number of a run
 module _ (M : Machine) (ticks region answers : List ℕ) where

@@ -1,6 +1,6 @@
 -- Demand 3 over a sheet: a row that a tick of the sheet wiped is what its block's history says from that tick on. Assumes nothing.
 use Prim.Native.Nat.{ℕ}
-use mathlib.Core.Path.{_≡_, refl, sym, _∙_, ap}
+use mathlib.Core.Path.{refl, sym, _∙_, ap}
 use mathlib.Core.List.{List, map}
 use Rattle.dynamics.specs.Machine.{Machine, updates, wordsAfter}
 use Rattle.dynamics.specs.History.{Account, Wiping, wiped, retold, grownThrough}

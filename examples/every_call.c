@@ -1,6 +1,6 @@
 /*
  * Every call of the boundary from C: on a delay of two seconds that is started at time 0 with a true input, and on a sheet
- * of such a delay and a soak clock. Prints examples/every_call.expected.
+ * of such a delay and a soak clock that runs while the delay's answer is true. Prints examples/every_call.expected.
  */
 #include "oven.h"
 
@@ -29,22 +29,49 @@ static void show_sheet(const char *call, struct oven_sheet_answer a) {
     show(call, words, 3);
 }
 
-/* A sheet of two rows: both read column 0, and column 7 resets the clock. */
-static void sheet(void) {
-    enum { DELAY = 0, CLOCK = OVEN_ROW_WORDS, LEN = 2 * OVEN_ROW_WORDS };
-    uint64_t rows[LEN] = {
-        [DELAY + OVEN_ROW_BLOCK] = OVEN_TRUE_DELAY,
-        [DELAY + OVEN_ROW_SETTINGS + OVEN_TRUE_DELAY_DELAY_TIME] = oven_word(2.0),
-        [DELAY + OVEN_ROW_SETTINGS + OVEN_TRUE_DELAY_DELAY_ON_INIT] = 1,
-        [CLOCK + OVEN_ROW_BLOCK] = OVEN_TIMER_ACCUMULATING,
-        [CLOCK + OVEN_ROW_SECOND] = 7,
-        [CLOCK + OVEN_ROW_SETTINGS + OVEN_TIMER_ACCUMULATING_T] = oven_word(2.0),
+/* The rows of a sheet, their words, and where each row's begin. */
+enum { DELAY, CLOCK, ROWS, LEN = OVEN_ROW_AT(ROWS), OF_DELAY = OVEN_ROW_AT(DELAY), OF_CLOCK = OVEN_ROW_AT(CLOCK) };
+
+/* What a start and a tick say to a column in a place that its block does not read. The rows have a setting that is refused with
+ * 2, which comes behind the column's 1. */
+static void columns(uint64_t *rows, uint64_t *region, uint64_t *answers) {
+    const uint64_t words[OVEN_SHEET_INPUTS] = {0};
+    const uint64_t cases[][2] = {
+        {OF_DELAY + OVEN_ROW_THIRD, OVEN_ANSWER_COLUMN(DELAY, OVEN_OUTPUT)},        /* the row's own word */
+        {OF_CLOCK + OVEN_ROW_THIRD, OVEN_ANSWER_COLUMN(CLOCK, OVEN_SECOND_OUTPUT)}, /* the row's own word */
+        {OF_DELAY + OVEN_ROW_SECOND, OVEN_ANSWER_COLUMN(CLOCK, OVEN_OUTPUT)},       /* a later row's */
+        {OF_CLOCK + OVEN_ROW_THIRD, OVEN_ANSWER_COLUMN(ROWS, OVEN_OUTPUT)},         /* of no row */
+        {OF_CLOCK + OVEN_ROW_THIRD, UINT64_MAX},
+        {OF_CLOCK + OVEN_ROW_THIRD, OVEN_ANSWER_COLUMN(DELAY, OVEN_SECOND_OUTPUT)}, /* of a row further up: so 2 */
     };
-    uint64_t region[OVEN_TRUE_DELAY_LENGTH + OVEN_TIMER_ACCUMULATING_LENGTH], answers[4];
-    const uint64_t words[8] = {1};
+    for (size_t n = 0; n < sizeof cases / sizeof cases[0]; n++) {
+        uint64_t *place = rows + cases[n][0], before = *place;
+        *place = cases[n][1];
+        const uint64_t said[] = {
+            oven_sheet_start(rows, LEN, region, 9).refusal,
+            oven_sheet_tick(rows, LEN, oven_word(9.0), words, region, 9, answers, 4).refusal,
+        };
+        show(n == 0 ? "column" : "", said, 2);
+        *place = before;
+    }
+}
+
+/* A sheet of two rows: column 0 is the delay's input, the delay's answer is the clock's, and column 7 resets the clock. */
+static void sheet(void) {
+    uint64_t rows[LEN] = {
+        [OF_DELAY + OVEN_ROW_BLOCK] = OVEN_TRUE_DELAY,
+        [OF_DELAY + OVEN_ROW_SETTINGS + OVEN_TRUE_DELAY_DELAY_TIME] = oven_word(2.0),
+        [OF_DELAY + OVEN_ROW_SETTINGS + OVEN_TRUE_DELAY_DELAY_ON_INIT] = 1,
+        [OF_CLOCK + OVEN_ROW_BLOCK] = OVEN_TIMER_ACCUMULATING,
+        [OF_CLOCK + OVEN_ROW_FIRST] = OVEN_ANSWER_COLUMN(DELAY, OVEN_OUTPUT),
+        [OF_CLOCK + OVEN_ROW_SECOND] = 7,
+        [OF_CLOCK + OVEN_ROW_SETTINGS + OVEN_TIMER_ACCUMULATING_T] = oven_word(2.0),
+    };
+    uint64_t region[OVEN_TRUE_DELAY_LENGTH + OVEN_TIMER_ACCUMULATING_LENGTH], answers[OVEN_ROW_ANSWERS * ROWS];
+    const uint64_t words[OVEN_SHEET_INPUTS] = {1};
 
     show_sheet("sheet", oven_sheet_start(rows, LEN, region, 9));
-    for (double time = 0.0; time < 3.0; time += 1.0) {
+    for (double time = 0.0; time < 5.0; time += 1.0) {
         show_sheet("tick", oven_sheet_tick(rows, LEN, oven_word(time), words, region, 9, answers, 4));
         show("", answers, 4);
     }
@@ -55,12 +82,12 @@ static void sheet(void) {
     show_sheet("", oven_sheet_tick(rows, LEN, oven_word(1.0), words, region, 9, answers, 4));
     show_sheet("", oven_sheet_tick(rows, LEN, oven_word(3.0), words, region, 9, answers, 3));
     show_sheet("", oven_sheet_start(rows, LEN, region, 8));
-    rows[CLOCK + OVEN_ROW_SETTINGS + OVEN_TIMER_ACCUMULATING_T] = OVEN_UNSET; /* a NaN */
+    rows[OF_CLOCK + OVEN_ROW_SETTINGS + OVEN_TIMER_ACCUMULATING_T] = OVEN_UNSET; /* a NaN */
     show_sheet("", oven_sheet_start(rows, LEN, region, 9));
-    rows[DELAY + OVEN_ROW_THIRD] = 8; /* no column, though a delay does not read it */
-    show_sheet("", oven_sheet_start(rows, LEN, region, 9));
-    rows[CLOCK + OVEN_ROW_BLOCK] = 7;
-    show_sheet("", oven_sheet_start(rows, LEN, region, 9));
+    columns(rows, region, answers);
+    rows[OF_DELAY + OVEN_ROW_FIRST] = UINT64_MAX; /* 13 comes before the column's 1 */
+    rows[OF_CLOCK + OVEN_ROW_BLOCK] = 7;
+    show_sheet("refused", oven_sheet_start(rows, LEN, region, 9));
 }
 
 int main(void) {

@@ -75,17 +75,31 @@ static void begin_block(struct bytes *b) {
     }
 }
 
+/* A column of row n: a word of the tick, or where rows feed rows mostly an answer of the row above or of any further up. */
+static uint64_t some_column(struct bytes *b, size_t n, bool feeds) {
+    const size_t choice = feeds && n > 0 ? choose(b, 4) : 0;
+    if (choice == 0) {
+        return choose(b, 8);
+    }
+    return choice == 1 ? 8 + choose(b, 2 * n) : 8 + 2 * (n - 1) + (choose(b, 4) == 0);
+}
+
+/* Half of the sheets have rows that feed rows. There, a controller in four has both limits at -0.0, and mostly answers it. */
 static void begin_sheet(struct bytes *b) {
     const size_t rows = 1 + choose(b, choose(b, 4) == 0 ? 16 : 5);
+    const bool feeds = choose(b, 2) == 0;
     size_t len = 0;
     bench.rows_len = rows * OVEN_ROW_WORDS;
     for (uint64_t *row = bench.rows; row < bench.rows + bench.rows_len; row += OVEN_ROW_WORDS) {
         memset(row, 0xFF, OVEN_ROW_WORDS * sizeof *row); /* settings that a block does not read are no numbers */
         row[OVEN_ROW_BLOCK] = some_block(b);
         for (size_t n = OVEN_ROW_FIRST; n < OVEN_ROW_SETTINGS; n++) {
-            row[n] = choose(b, 8);
+            row[n] = some_column(b, (size_t)(row - bench.rows) / OVEN_ROW_WORDS, feeds);
         }
         some_settings(b, row[OVEN_ROW_BLOCK], row + OVEN_ROW_SETTINGS);
+        if (feeds && row[OVEN_ROW_BLOCK] <= OVEN_PID_WITH_RESET && choose(b, 4) == 0) {
+            row[OVEN_ROW_SETTINGS + OVEN_PID_Y_MAX] = row[OVEN_ROW_SETTINGS + OVEN_PID_Y_MIN] = 1ULL << 63;
+        }
         len += due_length(row[OVEN_ROW_BLOCK], row + OVEN_ROW_SETTINGS);
     }
     some_region(b, len);
@@ -149,6 +163,25 @@ static uint64_t *own_row_word(struct bytes *b, struct call *c, size_t place) {
     return rows + choose(b, c->rows.len / OVEN_ROW_WORDS) * OVEN_ROW_WORDS + place;
 }
 
+/* Puts an answer word into a row's column: its own, one from there up to the first behind all rows', one behind, or any word. */
+static void spoil_column(struct bytes *b, struct call *c) {
+    uint64_t *column = own_row_word(b, c, OVEN_ROW_FIRST + choose(b, 3));
+    const size_t rows = c->rows.len / OVEN_ROW_WORDS, own = due_columns((size_t)(column - c->rows.at) / OVEN_ROW_WORDS);
+    switch (choose(b, 4)) {
+    case 0:
+        *column = own + choose(b, 2);
+        break;
+    case 1:
+        *column = own + choose(b, due_columns(rows) - own + 1);
+        break;
+    case 2:
+        *column = due_columns(rows) + choose(b, 4);
+        break;
+    default:
+        *column = any_word(b);
+    }
+}
+
 static void spoil_sheet(struct bytes *b, struct call *c) {
     switch (choose(b, 8)) {
     case 0:
@@ -161,7 +194,7 @@ static void spoil_sheet(struct bytes *b, struct call *c) {
         *own_row_word(b, c, OVEN_ROW_BLOCK) = choose(b, 4) == 0 ? any_word(b) : choose(b, 9);
         break;
     case 3:
-        *own_row_word(b, c, OVEN_ROW_FIRST + choose(b, 3)) = choose(b, 2) == 0 ? 8 : any_word(b);
+        spoil_column(b, c);
         break;
     case 4:
         *own_row_word(b, c, OVEN_ROW_SETTINGS + choose(b, OVEN_PID_SETTINGS)) = any_word(b);

@@ -211,16 +211,23 @@ static void accepted_decode(const struct call *c, const struct outcome *o) {
     require(same_words(o->said + 1, state, 6), "the decoded words");
 }
 
-/* A row's block as a call of this kind: its settings, its three inputs and its stretch of the region. */
+/* A row's block as a call of this kind: its settings and its stretch of the region. */
 static struct call row_call(const struct call *c, size_t row, enum kind kind, const uint64_t *region) {
     const uint64_t *words = c->rows.at + row * OVEN_ROW_WORDS, *settings = words + OVEN_ROW_SETTINGS;
     struct call single = {.kind = kind, .block = words[OVEN_ROW_BLOCK], .time = c->time};
     single.settings = (struct words){settings, due_settings(single.block)};
     single.region = (struct words){region, due_length(single.block, settings)};
-    for (size_t n = 0; n < 3; n++) {
-        single.inputs[n] = c->inputs[words[OVEN_ROW_FIRST + n]];
-    }
     return single;
+}
+
+/* Its tick with the three inputs that it received: words of the sheet's tick, or answers of rows further up, as their bits. */
+static struct call row_tick(const struct call *c, size_t row, const uint64_t *answers, const uint64_t *region) {
+    const uint64_t *columns = c->rows.at + row * OVEN_ROW_WORDS + OVEN_ROW_FIRST;
+    struct call tick = row_call(c, row, TICK, region);
+    for (size_t n = 0; n < 3; n++) {
+        tick.inputs[n] = columns[n] < 8 ? c->inputs[columns[n]] : answers[columns[n] - 8];
+    }
+    return tick;
 }
 
 /* A sheet starts each row's block on its stretch. */
@@ -236,12 +243,12 @@ static void accepted_sheet_start(const struct call *c, const struct outcome *o) 
     }
 }
 
-/* A sheet's tick is the tick of each row's block. */
+/* A sheet's tick is the tick of each row's block, top to bottom: what a row hands on has been compared before another reads it. */
 static void accepted_sheet_tick(const struct call *c, const struct outcome *o) {
     size_t at = 0;
     uint64_t warning = 0;
     for (size_t row = 0; row < c->rows.len / OVEN_ROW_WORDS; row++) {
-        const struct call tick = row_call(c, row, TICK, c->region.at + at);
+        const struct call tick = row_tick(c, row, o->answers, c->region.at + at);
         make(&tick, GUARD_BEHIND, false, &other);
         const bool is_real = has_real(tick.block);
         require(other.said[0] == OVEN_ACCEPTED, "a row's block does not tick singly");

@@ -1,4 +1,5 @@
-/* What calls must meet beside their numbers: refused lengths that are far off, boolean settings of any word, sums of -0.0. */
+/* What calls must meet beside their numbers: refused lengths that are far off, boolean settings of any word, sums of -0.0, and of
+ * rows that feed rows which words they hand on, how long a chain of them is, and which columns are refused. */
 #ifndef CLASSES_H
 #define CLASSES_H
 

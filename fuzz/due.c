@@ -5,19 +5,21 @@ enum { BLOCKS = 7, TYPES = 4, ROWS_MOST = 16, COLUMNS = 8 };
 
 static const struct {
     size_t settings, first_real, reals; /* a boolean setting comes behind the reals */
+    const char *inputs;
     bool has_real, has_boolean;
 } facts[BLOCKS] = {
-    [OVEN_PID] = {OVEN_PID_SETTINGS, OVEN_PID_K, 11, true, false},
-    [OVEN_PID_WITH_RESET] = {OVEN_PID_SETTINGS, OVEN_PID_K, 11, true, false},
-    [OVEN_MOVING_AVERAGE] = {1, 0, 1, true, false},
-    [OVEN_TIMER_ACCUMULATING] = {1, 0, 1, true, true},
-    [OVEN_TRUE_DELAY] = {2, 0, 1, false, true},
-    [OVEN_TRUE_FALSE_HOLD] = {2, 0, 2, false, true},
-    [OVEN_TRUE_HOLD_WITH_RESET] = {1, 0, 1, false, true},
+    [OVEN_PID] = {OVEN_PID_SETTINGS, OVEN_PID_K, 11, "rr", true, false},
+    [OVEN_PID_WITH_RESET] = {OVEN_PID_SETTINGS, OVEN_PID_K, 11, "rrb", true, false},
+    [OVEN_MOVING_AVERAGE] = {1, 0, 1, "r", true, false},
+    [OVEN_TIMER_ACCUMULATING] = {1, 0, 1, "bb", true, true},
+    [OVEN_TRUE_DELAY] = {2, 0, 1, "b", false, true},
+    [OVEN_TRUE_FALSE_HOLD] = {2, 0, 2, "b", false, true},
+    [OVEN_TRUE_HOLD_WITH_RESET] = {1, 0, 1, "bb", false, true},
 };
 
 size_t due_settings(uint64_t block) { return facts[block].settings; }
 size_t due_boolean_setting(uint64_t block) { return facts[block].first_real + facts[block].reals; }
+const char *due_inputs(uint64_t block) { return facts[block].inputs; }
 bool has_real(uint64_t block) { return facts[block].has_real; }
 bool has_boolean(uint64_t block) { return facts[block].has_boolean; }
 
@@ -125,9 +127,12 @@ static bool names_none(const struct call *c, const uint64_t *row, const uint64_t
     return !is_named(row[OVEN_ROW_BLOCK], row + OVEN_ROW_SETTINGS);
 }
 
+size_t due_columns(size_t n) { return COLUMNS + 2 * n; }
+
 static bool has_no_column(const struct call *c, const uint64_t *row, const uint64_t *region) {
-    (void)c, (void)region;
-    return row[OVEN_ROW_FIRST] >= COLUMNS || row[OVEN_ROW_SECOND] >= COLUMNS || row[OVEN_ROW_THIRD] >= COLUMNS;
+    (void)region;
+    const uint64_t columns = due_columns((size_t)(row - c->rows.at) / OVEN_ROW_WORDS);
+    return row[OVEN_ROW_FIRST] >= columns || row[OVEN_ROW_SECOND] >= columns || row[OVEN_ROW_THIRD] >= columns;
 }
 
 static bool has_bad_setting(const struct call *c, const uint64_t *row, const uint64_t *region) {

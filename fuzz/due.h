@@ -22,6 +22,12 @@ size_t due_sheet_length(const struct call *call);
  * n count; booleans: g trigger, c coalesced, b another. The points of a moving average come after them. */
 const char *due_layout(uint64_t block, const uint64_t *settings);
 
+/* How many columns row n of a sheet may name: a tick's eight words, and two answer words of each row further up. */
+size_t due_columns(size_t n);
+
+/* What its inputs are, a letter each: r real, b boolean. */
+const char *due_inputs(uint64_t block);
+
 /* How many settings it has, the place of the boolean one (behind the last if it has none), and which outputs. */
 size_t due_settings(uint64_t block);
 size_t due_boolean_setting(uint64_t block);

@@ -40,6 +40,16 @@ enum slip {
     WARNS_FOR_THE_LAST_ROW,
     STORES_A_ROW_ON_REFUSAL,
     TAKES_SEVENTEEN_ROWS,
+    TAKES_A_ROWS_OWN_WORDS,
+    TAKES_A_COLUMN_THAT_IS_NOT_READ,
+    STARTS_ON_ANY_COLUMNS,
+    NAMES_THE_ROW_OF_A_COLUMN,
+    REFUSES_THE_ROW_ABOVE,
+    FEEDS_ANSWERS_AS_LENT,
+    FEEDS_EMITS_ALONE,
+    FEEDS_THE_NEXT_WORD,
+    FEEDS_A_TRUE_AS_ONE,
+    FEEDS_A_ZERO_WITHOUT_SIGN,
     SLIPS
 };
 
@@ -66,6 +76,7 @@ PAIR(oven_tick);
 PAIR(oven_run);
 PAIR(oven_sound);
 PAIR(oven_decode);
+PAIR(oven_sheet_start);
 PAIR(oven_sheet_tick);
 
 /* How many settings a block has, and how many words its region. */
@@ -254,11 +265,133 @@ static struct oven_sheet_answer take_more(struct oven_sheet_answer a, const uint
     return a;
 }
 
+/* ---- Columns. */
+
+enum { COLUMNS = 3, ROWS_MOST = 16 };
+
+/* Whether a library with the slip takes a column of row n that names nothing. */
+static int takes(size_t n, uint64_t block, size_t place, uint64_t column) {
+    static const size_t inputs[] = {2, 3, 1, 2, 1, 1, 2};
+    return (has(TAKES_A_ROWS_OWN_WORDS) && column < 8 + 2 * (n + 1)) ||
+           (has(TAKES_A_COLUMN_THAT_IS_NOT_READ) && place >= inputs[block]) || has(STARTS_ON_ANY_COLUMNS);
+}
+
+/* The rows with 0 in the place of each column that names nothing and is taken all the same; `fault` is the first row with one that
+ * names nothing, or how many rows there are. */
+static const uint64_t *taken(const uint64_t *rows, size_t nr, size_t *fault) {
+    static uint64_t read[ROWS_MOST * OVEN_ROW_WORDS];
+    const size_t count = nr / OVEN_ROW_WORDS;
+    *fault = count;
+    for (size_t n = 0; n < count * COLUMNS && count <= ROWS_MOST; n++) {
+        const size_t row = n / COLUMNS, at = row * OVEN_ROW_WORDS, place = at + OVEN_ROW_FIRST + n % COLUMNS;
+        if (n % COLUMNS == 0) {
+            memcpy(read + at, rows + at, OVEN_ROW_WORDS * sizeof *read);
+        }
+        if (rows[place] >= 8 + 2 * row) {
+            *fault = *fault < row ? *fault : row;
+            read[place] = takes(row, rows[at], n % COLUMNS, rows[place]) ? 0 : rows[place];
+        }
+    }
+    return count <= ROWS_MOST ? read : rows;
+}
+
+/* Whether a row reads the one above it. */
+static int reads_above(const uint64_t *rows, size_t nr) {
+    for (size_t n = COLUMNS; n < nr / OVEN_ROW_WORDS * COLUMNS; n++) {
+        const uint64_t column = rows[n / COLUMNS * OVEN_ROW_WORDS + OVEN_ROW_FIRST + n % COLUMNS];
+        if (column / 2 == 3 + n / COLUMNS) {
+            return 1;
+        }
+    }
+    return 0;
+}
+
+struct oven_sheet_answer __wrap_oven_sheet_start(const uint64_t *rows, size_t nr, uint64_t *w, size_t nw) {
+    size_t fault;
+    struct oven_sheet_answer a = __real_oven_sheet_start(rows, nr, w, nw);
+    if (has(STARTS_ON_ANY_COLUMNS) && a.refusal == OVEN_BAD_SHEET) {
+        a = __real_oven_sheet_start(taken(rows, nr, &fault), nr, w, nw);
+    }
+    return a;
+}
+
+/* A tick of a sheet that is refused for its form, as a library makes it that takes more columns or names the row of one. */
+static struct oven_sheet_answer take_columns(struct oven_sheet_answer a, const uint64_t *rows, size_t nr, uint64_t time,
+                                             const uint64_t *words, uint64_t *w, size_t nw, uint64_t *answers, size_t na) {
+    size_t fault;
+    const uint64_t *read = a.refusal == OVEN_BAD_SHEET ? taken(rows, nr, &fault) : rows;
+    if (a.refusal == OVEN_BAD_SHEET && (has(TAKES_A_ROWS_OWN_WORDS) || has(TAKES_A_COLUMN_THAT_IS_NOT_READ))) {
+        return __real_oven_sheet_tick(read, nr, time, words, w, nw, answers, na);
+    }
+    if (has(NAMES_THE_ROW_OF_A_COLUMN) && a.refusal == OVEN_BAD_SHEET && nr <= ROWS_MOST * OVEN_ROW_WORDS) {
+        a.row = fault;
+    }
+    return a;
+}
+
+/* ---- Rows that feed rows. */
+
+/* The word that a column names, as the slip has it. */
+static uint64_t fed(const uint64_t *words, const uint64_t *lent, const uint64_t *answers, uint64_t column, int updates) {
+    if (column < 8) {
+        return words[column];
+    }
+    const uint64_t word = (has(FEEDS_ANSWERS_AS_LENT) ? lent : answers)[column - 8 + (uint64_t)has(FEEDS_THE_NEXT_WORD)];
+    if ((has(FEEDS_EMITS_ALONE) && updates) || (has(FEEDS_A_ZERO_WITHOUT_SIGN) && word == 1ULL << 63)) {
+        return 0;
+    }
+    return has(FEEDS_A_TRUE_AS_ONE) && word == 1 ? oven_word(1.0) : word;
+}
+
+/* A tick that is accepted, made by its rows' own calls on the words before it; `lent` are the answers as they were lent. */
+static void tick_rows(const uint64_t *rows, size_t nr, uint64_t time, const uint64_t *words, uint64_t *w, const uint64_t *lent,
+                      uint64_t *answers) {
+    for (const uint64_t *row = rows; row < rows + nr; row += OVEN_ROW_WORDS) {
+        const uint64_t block = row[OVEN_ROW_BLOCK], *s = row + OVEN_ROW_SETTINGS;
+        const size_t ns = settings_of(block), len = length_of(block, s);
+        uint64_t in[2][COLUMNS], *own = answers + (row - rows) / OVEN_ROW_WORDS * 2;
+        for (size_t n = 0; n < 2 * COLUMNS; n++) {
+            in[n / COLUMNS][n % COLUMNS] = fed(words, lent, answers, row[OVEN_ROW_FIRST + n % COLUMNS], n >= COLUMNS);
+        }
+        const struct oven_answer a = __real_oven_emit(block, s, ns, time, in[0][0], in[0][1], in[0][2], w, len);
+        __real_oven_update(block, s, ns, time, in[1][0], in[1][1], in[1][2], w, len);
+        own[0] = block <= OVEN_TIMER_ACCUMULATING ? a.real : a.boolean;
+        own[1] = block == OVEN_TIMER_ACCUMULATING ? a.boolean : 0;
+        w += len;
+    }
+}
+
+/* Whether the library feeds its rows otherwise. */
+static int feeds_wrongly(void) {
+    return has(FEEDS_ANSWERS_AS_LENT) || has(FEEDS_EMITS_ALONE) || has(FEEDS_THE_NEXT_WORD) || has(FEEDS_A_TRUE_AS_ONE) ||
+           has(FEEDS_A_ZERO_WITHOUT_SIGN);
+}
+
+/* A tick of a sheet whose rows are fed as the slip has it. */
+static struct oven_sheet_answer tick_fed(const uint64_t *rows, size_t nr, uint64_t time, const uint64_t *words, uint64_t *w,
+                                         size_t nw, uint64_t *answers, size_t na) {
+    uint64_t *copy = malloc((nw + na + 1) * sizeof *copy), *lent = copy + nw;
+    for (size_t n = 0; n < nw + na; n++) {
+        copy[n] = n < nw ? w[n] : answers[n - nw];
+    }
+    const struct oven_sheet_answer a = __real_oven_sheet_tick(rows, nr, time, words, w, nw, answers, na);
+    if (a.refusal == OVEN_ACCEPTED) {
+        tick_rows(rows, nr, time, words, copy, lent, answers);
+        memcpy(w, copy, nw * sizeof *copy);
+    }
+    free(copy);
+    return a;
+}
+
 struct oven_sheet_answer __wrap_oven_sheet_tick(const uint64_t *rows, size_t nr, uint64_t time, const uint64_t *words, uint64_t *w,
                                                 size_t nw, uint64_t *answers, size_t na) {
     rows = has(READS_A_ROWS_SETTING_BY_ITS_LOW_BIT) ? low_bits(rows, nr) : rows;
-    struct oven_sheet_answer a = __real_oven_sheet_tick(rows, nr, time, words, w, nw, answers, na);
+    if (has(REFUSES_THE_ROW_ABOVE) && reads_above(rows, nr)) {
+        return (struct oven_sheet_answer){OVEN_BAD_SHEET, 0, 0};
+    }
+    struct oven_sheet_answer a = (feeds_wrongly() ? tick_fed : __real_oven_sheet_tick)(rows, nr, time, words, w, nw, answers, na);
     a = take_more(a, rows, nr, time, words, w, nw, answers, na);
+    a = take_columns(a, rows, nr, time, words, w, nw, answers, na);
     if (has(UPDATES_BEFORE_IT_EMITS) && a.refusal == OVEN_ACCEPTED) {
         emit_late(rows, nr, time, words, w, nw, answers, na);
     }

@@ -38,7 +38,7 @@ enum oven_type { OVEN_TYPE_P = 0, OVEN_TYPE_PI = 1, OVEN_TYPE_PD = 2, OVEN_TYPE_
 /* ---- Refusals. The first that applies is given: 13, then 14, then the others by their number. */
 enum oven_refusal {
     OVEN_ACCEPTED = 0,
-    OVEN_BAD_SHEET = 1,      /* of a sheet: no rows or more than 16, or a column above 7 */
+    OVEN_BAD_SHEET = 1,      /* of a sheet: no rows or more than 16, or a column that names no input and no answer further up */
     OVEN_BAD_SETTING = 2,    /* a real setting is a NaN or infinite */
     OVEN_BAD_LENGTH = 3,     /* the region has another number of words than the state, or a sheet's states together */
     OVEN_BAD_SPACE = 4,      /* of a sheet: the answers are not two words for each row */
@@ -85,13 +85,31 @@ enum oven_refusal {
 #define OVEN_TRUE_HOLD_WITH_RESET_SETTINGS 1
 
 /* ---- The places in a row of a sheet, and its words: a controller's thirteen settings, or another block's one or two and
- * then words that are not read. A column names one of a tick's eight input words, from 0 to 7. */
+ * then words that are not read. */
 #define OVEN_ROW_BLOCK 0
 #define OVEN_ROW_FIRST 1  /* the column of the first input */
 #define OVEN_ROW_SECOND 2 /* of the second; a block that lacks one does not read it, but a column it must be */
 #define OVEN_ROW_THIRD 3  /* of the third */
 #define OVEN_ROW_SETTINGS 4
 #define OVEN_ROW_WORDS 17
+
+/* The most rows of a sheet, the input words of its tick, and the words that each row answers in. */
+#define OVEN_SHEET_ROWS 16
+#define OVEN_SHEET_INPUTS 8
+#define OVEN_ROW_ANSWERS 2
+
+/* What a row answers: its real or boolean output, then its second output (of OVEN_TIMER_ACCUMULATING) or 0. */
+#define OVEN_OUTPUT 0
+#define OVEN_SECOND_OUTPUT 1
+
+/* A column below OVEN_SHEET_INPUTS names that input word of the tick. One from there on names an answer word of this same tick,
+ * of a row further up; the row's own and those below it are refused. The word is handed on as its bits: read as a boolean every
+ * real but 0.0 is true, also -0.0; read as a real a true boolean is the least subnormal, 5e-324.
+ * Rows are counted from 0. Here is where a row begins in the rows' words, where an output of it stands in the answers, and the
+ * column by which a row further down takes that output for an input. */
+#define OVEN_ROW_AT(row) (OVEN_ROW_WORDS * (row))
+#define OVEN_ANSWER_AT(row, output) (OVEN_ROW_ANSWERS * (row) + (output))
+#define OVEN_ANSWER_COLUMN(row, output) (OVEN_SHEET_INPUTS + OVEN_ANSWER_AT(row, output))
 
 /* ---- The words of a tick and of its answer in a run. */
 #define OVEN_TICK_WORDS 4   /* the time and three inputs */
@@ -220,13 +238,13 @@ uint64_t oven_sound(uint64_t block, const uint64_t *settings, size_t settings_le
 struct oven_state oven_decode(uint64_t block, const uint64_t *settings, size_t settings_len,
                               const uint64_t *region, size_t region_len);
 
-/* ---- A sheet: up to 16 rows over one region. The rows' states lie end to end in it, in the order of the rows. */
+/* ---- A sheet: up to OVEN_SHEET_ROWS rows over one region. The rows' states lie end to end in it, in the order of the rows. */
 
 /* Writes the words of a fresh start to each row's stretch of the region. */
 struct oven_sheet_answer oven_sheet_start(const uint64_t *rows, size_t rows_len, uint64_t *region, size_t region_len);
 
-/* A tick of all rows with these eight input words: all emit, then all update. Row n, from 0, answers in words 2n and 2n + 1:
- * its real or boolean output, then its second output (of OVEN_TIMER_ACCUMULATING) or 0. */
+/* A tick of all rows with these eight input words. All emit, from the top down, each with the inputs that its columns name; then
+ * all update, each with the inputs that its emit had. Row n, from 0, answers in words 2n and 2n + 1: OVEN_ANSWER_AT. */
 struct oven_sheet_answer oven_sheet_tick(const uint64_t *rows, size_t rows_len, uint64_t time, const uint64_t *words,
                                          uint64_t *region, size_t region_len, uint64_t *answers, size_t answers_len);
 

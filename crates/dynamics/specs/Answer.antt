@@ -41,7 +41,7 @@ updated warning = answered (bothOutputs 0·0 false) warning
 
 -- ---- refusals
 -- The number of the first test that fails, in the table's order; 0 is accepted. A test is true where it passes:
---   1 shape     a sheet has 1 to 16 rows and no column above 7
+--   1 shape     a sheet has 1 to 16 rows, and each column names a word
 --   2 settings  each is finite
 --   3 length    the region has the state's length
 --   4 space     a sheet's answer space has two words per row

@@ -23,7 +23,7 @@ const SETTINGS_AT: usize = 4;
 
 const WORDS_PER_ROW: usize = SETTINGS_AT + CONTROLLER_SETTINGS;
 
-// A column that names none of a tick's eight words.
+// The columns of a row that is not shown, which nothing reads; why they are no zeros stands at `blank`.
 const NO_COLUMN: u64 = 8;
 
 // The refusal number, the row at fault, and whether any row warned, as 0 or 1.
@@ -103,8 +103,8 @@ fn row_with(block: Block, words: &[u64]) -> Row
     }
 }
 
-// A row that stands where none is shown: its columns name no word of a tick. With zeros there the compiler copies all of a blank
-// row to each place, where it now writes the few words that are told.
+// A row that stands where none is shown. With zeros for its columns the compiler copies all of a blank row to each place, where
+// it now writes the few words that are told.
 fn blank() -> Row {
     Row {
         block: Block::TrueHoldWithReset { duration: 0.0 },

@@ -1,27 +1,28 @@
 -- What the emits find, and what they leave in sight. Assumes nothing.
 use Prim.Native.Nat.{ℕ, zero, suc, _+_, _*_, _≤_, _<_}
 use native.Mathlib.Omega.{arith}
-use mathlib.Core.Path.{_≡_, refl, sym, _∙_}
+use mathlib.Core.Path.{_≡_, refl, _∙_}
 use mathlib.Core.Bool.{Bool, true, false, _&&_, _||_, true≢false, or-true}
 use mathlib.Core.Logic.{_⊎_, inl, inr, ⊎-elim}
-use mathlib.Core.List.{List, [], _∷_, _++_, append-assoc, append-nil}
-use borrow.Author.Tests.{leb-true, le-leb, eqb-true, eq-eqb, lt-ltb, ltb-true}
+use mathlib.Core.List.{List, [], _∷_, _++_, append-assoc}
+use borrow.Author.Tests.{leb-true, le-leb, eqb-true, eq-eqb, lt-ltb}
 use lib.Dec.{eqb, ltb, leb}
-use lib.ListN.{length, take, drop, set, getD}
-use lib.Seq.{drop-drop, getD-take, take-set-le}
+use lib.ListN.{length, take, drop, getD}
+use lib.Seq.{drop-drop}
 use lib.Ieee.{Float}
 use Rattle.dynamics.specs.Answer.{Outputs, silent, emitted, accept}
 use Rattle.dynamics.specs.Machine.{Machine, tickRefusal, emitAnswer}
 use Rattle.dynamics.specs.declared.call.Inputs.{Inputs}
-use Rattle.blocks.specs.Block.{machineOf, answerWords, inputsOf}
+use Rattle.blocks.specs.Block.{machineOf, answerWords, inputsOf, ticked}
 use Rattle.blocks.specs.declared.block.OutputWords.{OutputWords}
 use Rattle.blocks.specs.declared.block.Tick.{Tick}
 use Rattle.sheet.specs.Rows.{wide, widthOf, Placed, placed, every, firstFailing, joined}
-use Rattle.sheet.specs.Sheet.{mostRows, inputWords, rowAnswers, inReach, tickBy, rowTick, twoWords}
-use Rattle.sheet.specs.Walk.{endsAt, ownWords, Carried, carried, isNew, noted, movedTo, emittedRow, turnedIn, turned, walked, putTwo}
+use Rattle.sheet.specs.Sheet.{mostRows, inputWords, rowAnswers, inReach, allReach, rowTick, Fed, rowTicked, answersOf, feed, fedBelow}
+use Rattle.sheet.specs.Walk.{endsAt, ownWords, Carried, carried, isNew, noted, movedTo, tickBy, emittedRow, turnedIn, turned, walked, putTwo}
 use Rattle.sheet.specs.declared.row.Row.{Row}
 use Rattle.sheet.specs.declared.walk.Phase.the-variants.{Emit}
 use Rattle.sheet.proofs.Stretches.{both, either, cut, up-to, take-two, length-two}
+use Rattle.sheet.proofs.Feeding.{sees, allAnswers, none-answered}
 use Rattle.sheet.proofs.Ends.{EndsAre, ends-stay}
 use Rattle.sheet.proofs.Walks.{midway, Above, above-of, new, old}
 use Rattle.sheet.proofs.Admission.{every-more, accepts}
@@ -110,34 +111,25 @@ module _ (time : Float) (ws : List ℕ) where
         here-is = omega arith
 
 -- ---- none refuses
--- a row whose columns are in reach reads the tick's words
-pub sees : (k : Tick) (seen : List ℕ) (r : Row) → take inputWords seen ≡ k .words → inReach r ≡ true → tickBy (k .time) seen r ≡ rowTick k r
-unfolding tickBy
-sees k seen r e reach =
-    let (a, more) = both (ltb (r .first) inputWords) _ reach in
-    let (b, c) = both (ltb (r .second) inputWords) _ more in
-    rw (← e, getD-take inputWords seen (r .first) 0 (ltb-true _ _ a), getD-take inputWords seen (r .second) 0 (ltb-true _ _ b), getD-take inputWords seen (r .third) 0 (ltb-true _ _ c)) refl
-
-module _ (k : Tick) (ws : List ℕ) where
-  -- a row's answer words
-  abbrev pub shows : Placed → List ℕ
-  shows p = twoWords (says (k .time) ws (k .words) p)
-
-  -- what all emits leave: the words in sight of `many` rows are these
-  pub record Emitted (c : Carried) (many : ℕ) (sight seen : List ℕ) : Type 0 where
+module _ (k : Tick) (eight : length (k .words) ≡ inputWords) (ws : List ℕ) where
+  -- what all emits leave: of the rows' many answer words these are in sight
+  pub record Emitted (c : Carried) (many : ℕ) (answers seen : List ℕ) : Type 0 where
     pub number-is : c .found .refusal ≡ 0
     pub region-is : c .region ≡ ws
-    pub first-words : take inputWords (c .seen) ≡ k .words
-    pub in-sight : take (inputWords + rowAnswers * many) (c .seen) ≡ sight
+    pub in-sight : take (inputWords + rowAnswers * many) (c .seen) ≡ k .words ++ answers
     pub ends-too : (n : ℕ) (rs : List Row) (at : ℕ) → EndsAre n rs at seen → EndsAre n rs at (c .seen)
 
-  module _ (r : Row) (rs : List Row) (n at : ℕ) (seen : List ℕ) (few : n + suc (length rs) ≤ mostRows) (long : length seen ≡ ownWords) (eight : take inputWords seen ≡ k .words) where
+  -- row n, where the tick's words and the answers above it are in sight
+  module _ (r : Row) (rs : List Row) (n at : ℕ) (seen above : List ℕ) (few : n + suc (length rs) ≤ mostRows) (long : length seen ≡ ownWords) (sight : take (inputWords + rowAnswers * n) seen ≡ k .words ++ above) where
+    abbrev here : Fed
+    here = feed k above (own (k .time) ws r at)
+
     -- where its answer words go, and what they are
     abbrev at-two : ℕ
     at-two = inputWords + rowAnswers * n
 
     abbrev two : OutputWords
-    two = says (k .time) ws (k .words) (own (k .time) ws r at)
+    two = answerWords (r .block) (rowTicked here .emitted)
 
     abbrev now : List ℕ
     now = putTwo n two seen
@@ -148,32 +140,37 @@ module _ (k : Tick) (ws : List ℕ) where
     still-long : length now ≡ ownWords
     still-long = rw fits (length-two at-two seen (two .first) (two .second) ∙ long)
 
-    still-eight : take inputWords now ≡ k .words
-    still-eight = rw fits (take-set-le inputWords (set seen at-two (two .first)) (at-two + 1) (two .second) (omega arith) ∙ take-set-le inputWords seen at-two (two .first) (omega arith) ∙ eight)
-
-    sight-step : take (inputWords + rowAnswers * (n + 1)) now ++ joined shows (placed rs (drop (at + wide r) ws)) ≡ take (inputWords + rowAnswers * n) seen ++ joined shows (placed (r ∷ rs) (drop at ws))
-    unfolding placed joined
-    sight-step =
+    still-sight : take (inputWords + rowAnswers * (n + 1)) now ≡ k .words ++ (above ++ answersOf here)
+    still-sight =
         let e : inputWords + rowAnswers * (n + 1) ≡ at-two + 2 = omega arith in
-        rw (e, fits, drop-drop (wide r) at ws, take-two at-two seen (two .first) (two .second) (omega (arith, few, long)), append-assoc)
+        rw (e, fits, take-two at-two seen (two .first) (two .second) (omega (arith, few, long)), sight) (append-assoc (k .words) above (answersOf here))
 
-  pub emits : (n : ℕ) (rs : List Row) (at : ℕ) (seen : List ℕ) → at + widthOf rs ≡ length ws → EndsAre n rs at seen → every inReach rs ≡ true → every (accepts (k .time)) (placed rs (drop at ws)) ≡ true
-      → n + length rs ≤ mostRows → length seen ≡ ownWords → take inputWords seen ≡ k .words
-      → Emitted (walked (k .time) n rs (carried (midway Emit 0 0 at) ws seen)) (n + length rs) (take (inputWords + rowAnswers * n) seen ++ joined shows (placed rs (drop at ws))) seen
-  unfolding every walked widthOf placed joined EndsAre
-  emits n [] at seen all ends e g few long eight = record {
+    answers-step : allAnswers k (above ++ answersOf here) rs (drop (at + wide r) ws) ≡ allAnswers k above (r ∷ rs) (drop at ws)
+    unfolding placed fedBelow joined
+    answers-step = rw (drop-drop (wide r) at ws) (append-assoc above (answersOf here) _)
+
+    emit-step : inReach n r ≡ true → number (k .time) ws (own (k .time) ws r at) ≡ 0 → getD seen (endsAt + n) 0 ≡ at + wide r → at + (wide r + widthOf rs) ≡ length ws
+        → walked (k .time) n (r ∷ rs) (carried (midway Emit 0 0 at) ws seen) ≡ walked (k .time) (n + 1) rs (carried (midway Emit 0 0 (at + wide r)) ws now)
+    unfolding ticked rowTick
+    emit-step reach none e all = rw (step-in (k .time) ws r rs n 0 0 at seen (omega (arith, few)) e all, sees k above n r reach seen eight sight, none) refl
+
+  pub emits : (n : ℕ) (rs : List Row) (at : ℕ) (seen above : List ℕ) → at + widthOf rs ≡ length ws → EndsAre n rs at seen → allReach n rs ≡ true → every (accepts (k .time)) (placed rs (drop at ws)) ≡ true
+      → n + length rs ≤ mostRows → length seen ≡ ownWords → take (inputWords + rowAnswers * n) seen ≡ k .words ++ above
+      → Emitted (walked (k .time) n rs (carried (midway Emit 0 0 at) ws seen)) (n + length rs) (allAnswers k above rs (drop at ws)) seen
+  unfolding every allReach walked widthOf placed EndsAre
+  emits n [] at seen above all ends e g few long sight = record {
     number-is = refl;
     region-is = refl;
-    first-words = eight;
-    in-sight = let z : n + 0 ≡ n = omega arith in rw z (sym (append-nil (take (inputWords + rowAnswers * n) seen)));
+    in-sight = let z : n + 0 ≡ n = omega arith in rw (z, none-answered k above (drop at ws)) sight;
     ends-too = λ m qs from e. e;
   }
-  emits n (r ∷ rs) at seen all ends e g few long eight =
-      let (t, u) = both (inReach r) (every inReach rs) e in
+  emits n (r ∷ rs) at seen above all ends e g few long sight =
+      let (t, u) = both (inReach n r) (allReach (n + 1) rs) e in
       let (x, y) = both (accepts (k .time) (own (k .time) ws r at)) _ g in
       let none : number (k .time) ws (own (k .time) ws r at) ≡ 0 = eqb-true _ _ x in
       let count : n + suc (length rs) ≡ (n + 1) + length rs = omega arith in
-      let stay = ends-stay n (two r rs n at seen few long eight) in
-      let more = emits (n + 1) rs (at + wide r) (now r rs n at seen few long eight) (left (k .time) ws r rs at all) (stay (n + 1) rs (at + wide r) seen (ends .1)) u (rw (drop-drop (wide r) at ws) at y) (omega (arith, few)) (still-long r rs n at seen few long eight) (still-eight r rs n at seen few long eight) in
-      rw (step-in (k .time) ws r rs n 0 0 at seen (omega (arith, few)) (ends .0) all, sees k seen r eight t, none, count, ← sight-step r rs n at seen few long eight)
-      (record { number-is = more .number-is; region-is = more .region-is; first-words = more .first-words; in-sight = more .in-sight; ends-too = λ m qs from e. more .ends-too m qs from (stay m qs from seen e) })
+      let stay = ends-stay n (two r rs n at seen above few long sight) in
+      let more = emits (n + 1) rs (at + wide r) (now r rs n at seen above few long sight) (above ++ answersOf (here r rs n at seen above few long sight)) (left (k .time) ws r rs at all) (stay (n + 1) rs (at + wide r) seen (ends .1)) u (rw (drop-drop (wide r) at ws) at y)
+      (omega (arith, few)) (still-long r rs n at seen above few long sight) (still-sight r rs n at seen above few long sight) in
+      rw (emit-step r rs n at seen above few long sight t none (ends .0) all, count, ← answers-step r rs n at seen above few long sight)
+      (record { number-is = more .number-is; region-is = more .region-is; in-sight = more .in-sight; ends-too = λ m qs from e. more .ends-too m qs from (stay m qs from seen e) })

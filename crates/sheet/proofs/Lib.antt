@@ -1,5 +1,6 @@
 -- Laws of sheets: what the walks over the rows give, then how the functions that lend rows are walked by hand.
 pub mod Stretches
+pub mod Feeding
 pub mod Ends
 pub mod Turning
 pub mod Walks
@@ -8,6 +9,7 @@ pub mod Emits
 pub mod Works
 pub mod Results
 pub mod Single
+pub mod Unfed
 pub mod Runs
 pub mod Wiping
 pub mod TwoRows

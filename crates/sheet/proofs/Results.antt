@@ -5,7 +5,7 @@ use native.Mathlib.Omega.{arith}
 use mathlib.Core.Path.{_≡_, refl, sym, _∙_, ap}
 use mathlib.Core.Bool.{true, false, _&&_}
 use mathlib.Core.Logic.{inl, ⊎-elim}
-use mathlib.Core.List.{List, [], _++_}
+use mathlib.Core.List.{List, [], map, append-nil}
 use borrow.Author.Tests.{leb-true, eqb-true, eqb-false, eq-eqb, ne-eqb, le-leb}
 use lib.Dec.{eqb, leb}
 use lib.ListN.{length, take, drop, replicate, length-append}
@@ -15,19 +15,19 @@ use lib.Ieee.Scale.{finite}
 use Rattle.dynamics.specs.Answer.{refusalOf}
 use Rattle.dynamics.proofs.Accepted.{accepted}
 use Rattle.dynamics.proofs.Accepted as by
-use Rattle.blocks.specs.Block.{ticked}
 use Rattle.blocks.specs.declared.block.Tick.{Tick}
 use Rattle.sheet.specs.Rows.{widthOf, Placed, placed, every, anyOf, firstFailing, joined}
-use Rattle.sheet.specs.Sheet.{mostRows, inputWords, rowAnswers, fewRows, inReach, settled, decodes, onTime, startNumber, tickNumber, rowAtFault, startRow, startsOn, SheetStarted, tickBy, tickSaid, SheetTicked, answersOf, warnsOf, leftOf}
+use Rattle.sheet.specs.Sheet.{mostRows, inputWords, rowAnswers, fewRows, allReach, settled, decodes, onTime, startNumber, tickNumber, rowAtFault, startRow, startsOn, SheetStarted, tickSaid, SheetTicked, feed, fed, answersOf, warnsOf, leftOf}
 use Rattle.sheet.specs.Walk.{ownWords, Carried, carried, ready, refusedWalk, begun, surveyed, formed, emittedAll, answerOf, walked, handedOn, starting, ticking, InSight, handedOut}
 use Rattle.sheet.specs.declared.row.Row.{Row}
 use Rattle.sheet.specs.declared.walk.Phase.the-variants.{Survey, Start, Emit, Update}
 use Rattle.sheet.specs.declared.walk.Walk.{Walk}
 use Rattle.sheet.proofs.Stretches.{both, either, behind}
+use Rattle.sheet.proofs.Feeding.{all-reach-more, hear, joined-map, any-map}
 use Rattle.sheet.proofs.Ends.{EndsAre, ended, ended-long, ended-inputs, ends-are}
 use Rattle.sheet.proofs.Walks.{midway, Finds, as-found, passes-by, out-of-reach, unsettled, Misfits, missing, over-left, misfit, unharmed}
 use Rattle.sheet.proofs.Admission.{every-both, fitting, all-fit, gives-6, not-6, gives-7, gives-0, all-accept}
-use Rattle.sheet.proofs.Emits.{Refuses, topmost, shows, Emitted, emits}
+use Rattle.sheet.proofs.Emits.{Refuses, topmost, Emitted, emits}
 use Rattle.sheet.proofs.Works.{Works, started, updated}
 
 -- ---- from walk to walk
@@ -54,10 +54,10 @@ module _ (time : Float) (rs : List Row) (ws : List ℕ) where
       unfolding begun
       begins = rw few
 
-      other-column : every inReach rs ≡ false → Finds first 1 0 ws
+      other-column : allReach 0 rs ≡ false → Finds first 1 0 ws
       other-column f = rw begins (out-of-reach time ws 0 rs 0 0 0 seen f)
 
-      module _ (reach : every inReach rs ≡ true) where
+      module _ (reach : allReach 0 rs ≡ true) where
         other-settings : every settled rs ≡ false → Finds first 2 (firstFailing settled rs) ws
         other-settings f = rw begins (rw (zero-add (firstFailing settled rs)) at (unsettled time ws 0 rs 0 0 0 seen (inl refl) reach f))
 
@@ -95,11 +95,11 @@ module _ (time : Float) (rs : List Row) (ws : List ℕ) where
   start-count f = start-refusal-is 1 0 (λ z. omega arith) (start-stands 1 0 (λ z. omega arith) (other-count time rs ws [] f)) (simp f) refl
 
   module _ (few : fewRows (length rs) ≡ true) where
-    start-column : every inReach rs ≡ false → StartSaid
+    start-column : allReach 0 rs ≡ false → StartSaid
     unfolding startNumber refusalOf startRow
     start-column f = start-refusal-is 1 0 (λ z. omega arith) (start-stands 1 0 (λ z. omega arith) (other-column time rs ws [] few f)) (simp (few, f)) refl
 
-    module _ (reach : every inReach rs ≡ true) where
+    module _ (reach : allReach 0 rs ≡ true) where
       start-settings : every settled rs ≡ false → StartSaid
       unfolding startNumber refusalOf startRow
       start-settings f =
@@ -135,7 +135,7 @@ module _ (time : Float) (rs : List Row) (ws : List ℕ) where
       (starts few reach settles)
       (start-length few reach settles) (either (eqb (length ws) (widthOf rs))))
       (start-settings few reach) (either (every settled rs)))
-      (start-column few) (either (every inReach rs)))
+      (start-column few) (either (allReach 0 rs)))
       start-count (either (fewRows (length rs)))
 
 -- ---- a tick
@@ -203,11 +203,11 @@ module _ (k : Tick) (rs : List Row) (ws os seen : List ℕ) (sight : InSight k s
     there : EndsAre 0 rs 0 noted-ends
     there = ends-are 0 rs 0 seen rows long
 
-    no-such-column : every inReach rs ≡ false → Said
+    no-such-column : allReach 0 rs ≡ false → Said
     unfolding tickNumber refusalOf rowAtFault
     no-such-column f = refusal-is 1 0 _ (λ z. omega arith) (stands 1 0 (λ z. omega arith) (other-column time rs ws seen few f)) (simp (few, f)) refl
 
-    module _ (reach : every inReach rs ≡ true) where
+    module _ (reach : allReach 0 rs ≡ true) where
       bad-settings : every settled rs ≡ false → Said
       unfolding tickNumber refusalOf rowAtFault
       bad-settings f =
@@ -278,19 +278,25 @@ module _ (k : Tick) (rs : List Row) (ws os seen : List ℕ) (sight : InSight k s
                   unfolding tickNumber refusalOf
                   number = simp (few, reach, settles, fits, space, timely, decoded, ordered)
 
+                  -- the answers of all rows
+                  abbrev all-answers : List ℕ
+                  all-answers = joined answersOf (fed k rs ws)
+
+                  each : fed k rs ws ≡ map (feed k all-answers) ps
+                  each = hear k 0 rs ws [] refl reach
+
                   -- the emits
-                  shown : Emitted k ws emitted (length rs) (k .words ++ joined (shows k ws) ps) noted-ends
-                  shown = rw emits-from (rw (eight, zero-add (length rs)) at
-                      (emits k ws 0 rs 0 noted-ends width there reach (all-accept time rs ws (sym (zero-add (widthOf rs)) ∙ width) settles timely decoded ordered) rows (ended-long 0 rs 0 seen ∙ long) eight))
+                  shown : Emitted k (sight .eight) ws emitted (length rs) all-answers noted-ends
+                  shown = rw emits-from (rw (zero-add (length rs)) at (emits k (sight .eight) ws 0 rs 0 noted-ends [] width there reach
+                      (all-accept time rs ws (sym (zero-add (widthOf rs)) ∙ width) settles timely decoded ordered) rows (ended-long 0 rs 0 seen ∙ long) (eight ∙ sym (append-nil (k .words)))))
 
                   -- the updates
-                  works : Works last (anyOf (warnsOf k) ps) (joined (leftOf k) ps) (emitted .seen)
-                  unfolding ticked tickBy
-                  works = rw (goes-on time rs ws emittedAll emitted (ready Update) (shown .region-is) (rw (shown .number-is) refl)) (updated k (emitted .seen) (shown .first-words) 0 rs 0 false ws width rows (shown .ends-too 0 rs 0 there) reach)
+                  works : Works last (anyOf warnsOf (fed k rs ws)) (joined leftOf (fed k rs ws)) (emitted .seen)
+                  works = rw (each, any-map (feed k all-answers) warnsOf ps, joined-map (feed k all-answers) leftOf ps, goes-on time rs ws emittedAll emitted (ready Update) (shown .region-is) (rw (shown .number-is) refl))
+                      (updated k all-answers (emitted .seen) (length rs) (sight .eight) (shown .in-sight) 0 rs 0 false ws width rows (shown .ends-too 0 rs 0 there) (all-reach-more 0 (length rs) rs (omega arith) reach))
 
-                  answers : take (length os) (drop inputWords (emitted .seen)) ≡ joined (answersOf k) ps
-                  unfolding ticked tickBy
-                  answers = ap (λ (n : ℕ). take n (drop inputWords (emitted .seen))) (eqb-true (length os) (rowAnswers * length rs) space) ∙ behind inputWords (emitted .seen) (k .words) (joined (shows k ws) ps) (rowAnswers * length rs) (sight .eight) (shown .first-words) (shown .in-sight)
+                  answers : take (length os) (drop inputWords (emitted .seen)) ≡ all-answers
+                  answers = ap (λ (n : ℕ). take n (drop inputWords (emitted .seen))) (eqb-true (length os) (rowAnswers * length rs) space) ∙ behind inputWords (emitted .seen) (k .words) all-answers (rowAnswers * length rs) (sight .eight) (shown .in-sight)
 
                   in-order : Said
                   unfolding tickSaid
@@ -310,5 +316,5 @@ module _ (k : Tick) (rs : List Row) (ws os seen : List ℕ) (sight : InSight k s
       (another-space few reach settles fits) (either (eqb (length os) (rowAnswers * length rs))))
       (another-length few reach settles) (either (eqb (length ws) (widthOf rs))))
       (bad-settings few reach) (either (every settled rs)))
-      (no-such-column few) (either (every inReach rs)))
+      (no-such-column few) (either (allReach 0 rs)))
       too-few-or-many (either (fewRows (length rs)))

@@ -2,10 +2,10 @@
 use Prim.Native.Nat.{ℕ, zero, suc, _+_, _*_, _<_}
 use native.Mathlib.Nat.{not-suc-le-zero, le-of-suc-le-suc}
 use native.Mathlib.Omega.{arith}
-use mathlib.Core.Path.{_≡_, refl, sym, _∙_, ap}
-use mathlib.Core.Bool.{Bool, true, false, not, _&&_, and-true, true≢false}
+use mathlib.Core.Path.{_≡_, refl, sym, _∙_, ap, subst}
+use mathlib.Core.Bool.{Bool, true, false, not, _&&_, and-true, and-false, true≢false}
 use mathlib.Core.Logic.{_⊎_, ⊎-elim}
-use mathlib.Core.List.{List, [], _∷_, _++_}
+use mathlib.Core.List.{List, [], _∷_, _++_, map}
 use borrow.Author.Tests.{eqb-true, eq-eqb}
 use lib.Dec.{eqb}
 use lib.ListN.{length, take, drop, length-drop}
@@ -21,11 +21,12 @@ use Rattle.blocks.specs.Block.{machineOf, inputsOf, ticked}
 use Rattle.blocks.specs.declared.block.Tick.{Tick}
 use Rattle.blocks.proofs.Lengths.{started-length, updated-length}
 use Rattle.sheet.specs.Rows.{wide, widthOf, Placed, placed, every, anyOf, firstFailing, joined}
-use Rattle.sheet.specs.Sheet.{rowAnswers, fewRows, inReach, settled, decodes, onTime, startNumber, tickNumber, rowAtFault, startRow, startsOn, tickBy, rowTick, answersOf, leftOf, tickSaid, SheetStarted, SheetTicked}
+use Rattle.sheet.specs.Sheet.{rowAnswers, fewRows, inReach, allReach, settled, decodes, onTime, startNumber, tickNumber, rowAtFault, startRow, startsOn, rowTick, Fed, answersOf, warnsOf, leftOf, feed, fed, tickSaid, SheetStarted, SheetTicked}
 use Rattle.sheet.specs.Single.{At, nowHas, StartsSingly, TicksSingly, ownStart, ownNumber, Topmost}
 use Rattle.sheet.specs.declared.row.Row.{Row}
 use Rattle.sheet.specs.declared.row.SheetAnswer.{SheetAnswer}
 use Rattle.sheet.proofs.Stretches.{both, either}
+use Rattle.sheet.proofs.Feeding.{hear, joined-map, any-map}
 use Rattle.sheet.proofs.Admission.{fitting, all-fit, gives-6, not-6, gives-7, gives-0, accepts, all-accept}
 
 -- ---- what stands at a place
@@ -35,6 +36,26 @@ every-at q zero x [] a e = absurd a
 every-at q (suc n) x [] a e = absurd a
 every-at q zero x (y ∷ ys) a e = ap q a ∙ both (q y) (every q ys) e .0
 every-at q (suc n) x (y ∷ ys) a e = every-at q n x ys a (both (q y) (every q ys) e .1)
+
+at-map : {A B : Type 0} (g : A → B) (n : ℕ) (x : A) (xs : List A) → At n x xs → At n (g x) (map g xs)
+unfolding At
+at-map g zero x [] a = absurd a
+at-map g (suc n) x [] a = absurd a
+at-map g zero x (y ∷ ys) a = ap g a
+at-map g (suc n) x (y ∷ ys) a = at-map g n x ys a
+
+-- what stands at a place of a list that was made from another
+record MadeFrom {A B : Type 0} (g : A → B) (n : ℕ) (y : B) (xs : List A) : Type 0 where
+  one : A
+  there : At n one xs
+  is : y ≡ g one
+
+mapped-from : {A B : Type 0} (g : A → B) (n : ℕ) (y : B) (xs : List A) → At n y (map g xs) → MadeFrom g n y xs
+unfolding At
+mapped-from g zero y [] a = absurd a
+mapped-from g (suc n) y [] a = absurd a
+mapped-from g zero y (x ∷ xs) a = record { one = x; there = refl; is = a }
+mapped-from g (suc n) y (x ∷ xs) a = let m = mapped-from g n y xs a in record { one = m .one; there = m .there; is = m .is }
 
 -- each two words of its own
 two-at : {A : Type 0} (f : A → List ℕ) → ((x : A) → length (f x) ≡ 2) → (n : ℕ) (x : A) (xs : List A) → At n x xs → take 2 (drop (2 * n) (joined f xs)) ≡ f x
@@ -76,6 +97,7 @@ module _ (k : Tick) (rs : List Row) (ws os : List ℕ) where
 
   -- the tests that it passed
   pub record Passed : Type 0 where
+    pub reach : allReach 0 rs ≡ true
     pub settles : every settled rs ≡ true
     pub width : widthOf rs ≡ length ws
     pub timely : finite time ≡ true
@@ -85,8 +107,8 @@ module _ (k : Tick) (rs : List Row) (ws os : List ℕ) where
   passed : tickNumber time rs ws os ≡ 0 → Passed
   unfolding tickNumber
   passed z =
-      let (_, s, l, _, t, d, o) = all-passed (fewRows (length rs) && every inReach rs) (every settled rs) (eqb (length ws) (widthOf rs)) (eqb (length os) (rowAnswers * length rs)) (finite time) (every decodes ps) (every (onTime time) ps) z in
-      record { settles = s; width = sym (eqb-true (length ws) (widthOf rs) l); timely = t; decoded = d; ordered = o }
+      let (c, s, l, _, t, d, o) = all-passed (fewRows (length rs) && allReach 0 rs) (every settled rs) (eqb (length ws) (widthOf rs)) (eqb (length os) (rowAnswers * length rs)) (finite time) (every decodes ps) (every (onTime time) ps) z in
+      record { reach = both (fewRows (length rs)) (allReach 0 rs) c .1; settles = s; width = sym (eqb-true (length ws) (widthOf rs) l); timely = t; decoded = d; ordered = o }
 
   -- every row's own calls are accepted
   pub tick-accepts : tickNumber time rs ws os ≡ 0 → (n : ℕ) (p : Placed) → At n p ps → tickRefusal (machineOf (p .row .block)) time (p .words) ≡ 0
@@ -94,21 +116,51 @@ module _ (k : Tick) (rs : List Row) (ws os : List ℕ) where
       let d = passed z in
       eqb-true _ _ (every-at (accepts time) n p ps a (all-accept time rs ws (d .width) (d .settles) (d .timely) (d .decoded) (d .ordered)))
 
-  -- every row's answer words and stretch are those of its block's own calls
-  pub tick-singly : (r : SheetAnswer) (left out : List ℕ) → SheetTicked k rs ws os r left out → tickNumber time rs ws os ≡ 0 → (n : ℕ) (p : Placed) → At n p ps → TicksSingly k rs p n left out
-  unfolding ticked tickBy
-  tick-singly r left out said z n p a = record {
-    accepts = tick-accepts z n p a;
-    answers = ap (λ (l : List ℕ). take rowAnswers (drop (rowAnswers * n) l)) (said .answers ∙ sym (accepted _ _ _ (sym z))) ∙ two-at (answersOf k) (λ q. refl) n p ps a;
-    leaves = rw (said .region, ← accepted (joined (leftOf k) ps) ws (tickNumber time rs ws os) (sym z))
-        (work-at (leftOf k) (λ q. updated-length (q .row .block) time _ (q .words)) rs ws (passed z .width) n p a);
-  }
+  module _ (z : tickNumber time rs ws os ≡ 0) where
+    -- the answers that it hands out
+    abbrev answers : List ℕ
+    answers = joined answersOf (fed k rs ws)
 
-  -- the warning is that some row's own update warns
-  pub warns-singly : (r : SheetAnswer) (left out : List ℕ) → SheetTicked k rs ws os r left out → tickNumber time rs ws os ≡ 0
-      → r .warning ≡ anyOf (λ p. updateAnswer (machineOf (p .row .block)) time (inputsOf (rowTick k (p .row))) (p .words) .warning) ps
-  unfolding ticked tickBy tickSaid
-  warns-singly r left out said z = ap (λ (a : SheetAnswer). a .warning) (said .answer ∙ sym (accepted _ _ _ (sym z)))
+    -- each row received of them, and so the rows are those of the sheet, each with what it received
+    each : fed k rs ws ≡ map (feed k answers) ps
+    each = hear k 0 rs ws [] refl (passed z .reach)
+
+    pub fed-there : (n : ℕ) (p : Placed) → At n p ps → At n (feed k answers p) (fed k rs ws)
+    fed-there n p a = subst (λ (qs : List Fed). At n (feed k answers p) qs) (sym each) (at-map (feed k answers) n p ps a)
+
+    any-there : (f : Fed → Bool) → anyOf f (fed k rs ws) ≡ anyOf (λ p. f (feed k answers p)) ps
+    any-there f = ap (anyOf f) each ∙ any-map (feed k answers) f ps
+
+    joined-there : (f : Fed → List ℕ) → joined f (fed k rs ws) ≡ joined (λ p. f (feed k answers p)) ps
+    joined-there f = ap (joined f) each ∙ joined-map (feed k answers) f ps
+
+    module _ (r : SheetAnswer) (left out : List ℕ) (said : SheetTicked k rs ws os r left out) where
+      hands-out : out ≡ answers
+      hands-out = said .answers ∙ sym (accepted _ _ _ (sym z))
+
+      singly-at : (n : ℕ) (p : Placed) → At n p ps → TicksSingly k rs (feed k answers p) n left out
+      unfolding ticked rowTick
+      singly-at n p a = record {
+        receives = ap (λ (l : List ℕ). rowTick k l (p .row)) (sym hands-out);
+        accepts = tick-accepts z n p a;
+        answers = ap (λ (l : List ℕ). take rowAnswers (drop (rowAnswers * n) l)) (hands-out ∙ joined-there answersOf) ∙ two-at (λ q. answersOf (feed k answers q)) (λ q. refl) n p ps a;
+        leaves = rw (said .region, ← accepted (joined leftOf (fed k rs ws)) ws (tickNumber time rs ws os) (sym z), joined-there leftOf)
+            (work-at (λ q. leftOf (feed k answers q)) (λ q. updated-length (q .row .block) time _ (q .words)) rs ws (passed z .width) n p a);
+      }
+
+      -- every row's answer words and stretch are those of its block's own calls, on what it received
+      pub tick-singly : (n : ℕ) (q : Fed) → At n q (fed k rs ws) → TicksSingly k rs q n left out
+      tick-singly n q a =
+          let s = mapped-from (feed k answers) n q ps (subst (λ (qs : List Fed). At n q qs) each a) in
+          subst (λ (x : Fed). TicksSingly k rs x n left out) (sym (s .is)) (singly-at n (s .one) (s .there))
+
+      -- the warning is that some row's own update, on what it received, warns
+      abbrev ownWarning : Fed → Bool
+      ownWarning q = updateAnswer (machineOf (q .row .block)) time (inputsOf (q .received)) (q .words) .warning
+
+      pub warns-singly : r .warning ≡ anyOf ownWarning (fed k rs ws)
+      unfolding ticked rowTick tickSaid
+      warns-singly = ap (λ (a : SheetAnswer). a .warning) (said .answer ∙ sym (accepted _ _ _ (sym z))) ∙ any-there warnsOf ∙ sym (any-there ownWarning)
 
 -- ---- an accepted start
 -- the row's block accepts a start on its own stretch
@@ -126,7 +178,7 @@ all-begin (r ∷ rs) ws all s =
 module _ (rs : List Row) (ws : List ℕ) (z : startNumber rs ws ≡ 0) where
   start-passed : (every settled rs ≡ true) × (widthOf rs ≡ length ws)
   unfolding startNumber
-  start-passed = let (_, s, l, _, _, _, _) = all-passed (fewRows (length rs) && every inReach rs) (every settled rs) (eqb (length ws) (widthOf rs)) true true true true z in (s, sym (eqb-true (length ws) (widthOf rs) l))
+  start-passed = let (_, s, l, _, _, _, _) = all-passed (fewRows (length rs) && allReach 0 rs) (every settled rs) (eqb (length ws) (widthOf rs)) true true true true z in (s, sym (eqb-true (length ws) (widthOf rs) l))
 
   pub start-accepts : (n : ℕ) (p : Placed) → At n p (placed rs ws) → startRefusal (machineOf (p .row .block)) (p .words) ≡ 0
   start-accepts n p a = eqb-true _ _ (every-at begins n p (placed rs ws) a (all-begin rs ws (start-passed .1) (start-passed .0)))
@@ -189,7 +241,7 @@ tells true true true true true true true = tt
 module _ (time : Float) (rs : List Row) (ws os : List ℕ) where
   told : (m : ℕ) → tickNumber time rs ws os ≡ m → Tells m (every settled rs) (eqb (length ws) (widthOf rs)) (finite time) (every decodes (placed rs ws)) (every (onTime time) (placed rs ws))
   unfolding tickNumber
-  told m e = rw e at (tells (fewRows (length rs) && every inReach rs) (every settled rs) (eqb (length ws) (widthOf rs)) (eqb (length os) (rowAnswers * length rs)) (finite time) (every decodes (placed rs ws)) (every (onTime time) (placed rs ws)))
+  told m e = rw e at (tells (fewRows (length rs) && allReach 0 rs) (every settled rs) (eqb (length ws) (widthOf rs)) (eqb (length os) (rowAnswers * length rs)) (finite time) (every decodes (placed rs ws)) (every (onTime time) (placed rs ws)))
 
 -- a test of rows, seen on the rows with their stretches
 module _ (q : Row → Bool) where
@@ -225,7 +277,7 @@ start-not-2 M w s e = true≢false (sym s ∙ rw e at (tells true (M .accepts) (
 pub own-2-start : (rs : List Row) (ws : List ℕ) → startNumber rs ws ≡ 2 → Topmost ownStart 2 (startRow 2 rs) (placed rs ws)
 unfolding startNumber startRow startRefusal formRefusal refusalOf
 own-2-start rs ws e = rw (← first-placed settled rs ws) (topmost ownStart 2 (λ p. settled (p .row)) (placed rs ws)
-    (every-placed settled rs ws ∙ rw e at (tells (fewRows (length rs) && every inReach rs) (every settled rs) (eqb (length ws) (widthOf rs)) true true true true))
+    (every-placed settled rs ws ∙ rw e at (tells (fewRows (length rs) && allReach 0 rs) (every settled rs) (eqb (length ws) (widthOf rs)) true true true true))
     (λ n p a f. simp f) (λ n p a t. start-not-2 (machineOf (p .row .block)) (p .words) t))
 
 module _ (time : Float) (rs : List Row) (ws os : List ℕ) where
@@ -254,16 +306,16 @@ module _ (time : Float) (rs : List Row) (ws os : List ℕ) where
       (λ n p a y z. omega (arith, gives-0 time t p (fit-at s l n p a) (well n p a) y, z))
 
 -- ---- a sheet of one row has its block's number
-module _ (r : Row) (ws : List ℕ) (reach : inReach r ≡ true) where
+module _ (r : Row) (ws : List ℕ) (reach : inReach 0 r ≡ true) where
   only-part : eqb (length ws) (wide r) ≡ true → take (wide r) ws ≡ ws
   only-part e = take-all (wide r) ws (omega (arith, eqb-true (length ws) (wide r) e))
 
   pub one-row-start : startNumber (r ∷ []) ws ≡ startRefusal (machineOf (r .block)) ws
-  unfolding startNumber every widthOf startRefusal formRefusal
+  unfolding startNumber allReach every widthOf startRefusal formRefusal
   one-row-start = let z : wide r + 0 ≡ wide r = omega arith in rw (reach, and-true (settled r), z) refl
 
   pub one-row : (time : Float) (os : List ℕ) → length os ≡ 2 → tickNumber time (r ∷ []) ws os ≡ tickRefusal (machineOf (r .block)) time ws
-  unfolding tickNumber every widthOf placed tickRefusal
+  unfolding tickNumber allReach every widthOf placed tickRefusal
   one-row time os two =
       let z : wide r + 0 ≡ wide r = omega arith in
       let d : Bool = machineOf (r .block) .decodes (take (wide r) ws) in
@@ -283,3 +335,26 @@ module _ (ws : List ℕ) where
   pub no-rows : (time : Float) (os : List ℕ) → tickNumber time [] ws os ≡ 1
   unfolding tickNumber refusalOf
   no-rows time os = refl
+
+-- ---- a column that names nothing is refused with 1, wherever its row stands and whether its block reads it or not
+reach-at : (m n : ℕ) (r : Row) (rs : List Row) → At n r rs → allReach m rs ≡ true → inReach (m + n) r ≡ true
+unfolding At allReach
+reach-at m zero r [] a e = absurd a
+reach-at m (suc n) r [] a e = absurd a
+reach-at m zero r (x ∷ xs) a e = let z : m + 0 ≡ m = omega arith in rw (z, a) (both (inReach m x) (allReach (m + 1) xs) e .0)
+reach-at m (suc n) r (x ∷ xs) a e = let z : m + suc n ≡ (m + 1) + n = omega arith in rw z (reach-at (m + 1) n r xs a (both (inReach m x) (allReach (m + 1) xs) e .1))
+
+module _ (rs : List Row) (n : ℕ) (r : Row) (there : At n r rs) (off : inReach n r ≡ false) where
+  off-reach : allReach 0 rs ≡ false
+  off-reach = ⊎-elim
+      (λ e. absurd (true≢false (let z : 0 + n ≡ n = omega arith in rw z at (sym (reach-at 0 n r rs there e)) ∙ off)))
+      (λ e. e)
+      (either (allReach 0 rs))
+
+  pub column-refused-start : (ws : List ℕ) → startNumber rs ws ≡ 1
+  unfolding startNumber refusalOf
+  column-refused-start ws = rw (off-reach, and-false (fewRows (length rs))) refl
+
+  pub column-refused : (time : Float) (ws os : List ℕ) → tickNumber time rs ws os ≡ 1
+  unfolding tickNumber refusalOf
+  column-refused time ws os = rw (off-reach, and-false (fewRows (length rs))) refl

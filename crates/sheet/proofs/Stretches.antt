@@ -8,7 +8,7 @@ use mathlib.Core.List.{List, [], _∷_, _++_, append-assoc}
 use borrow.Author.Tests.{leb-true, leb-false, le-leb, lt-leb, eqb-true, eqb-false, eq-eqb, ne-eqb}
 use lib.Dec.{eqb, leb}
 use lib.ListN.{length, take, drop, set, getD, length-append, length-set, length-drop}
-use lib.Seq.{take-at, drop-at, length-take-le, take-suc-set, take-add}
+use lib.Seq.{take-at, drop-at, length-take-le, take-suc-set, take-take, take-add}
 use Rattle.dynamics.specs.Region.{stored}
 use Rattle.sheet.specs.Sheet.{mostRows, inputWords, rowAnswers}
 use Rattle.sheet.specs.Walk.{ownWords, handedOut}
@@ -80,9 +80,10 @@ module _ (at : ℕ) (ws : List ℕ) (x y : ℕ) where
   length-two = length-set (set ws at x) (at + 1) y ∙ length-set ws at x
 
 -- those behind the first n words
-pub behind : (n : ℕ) (l ws more : List ℕ) (m : ℕ) → length ws ≡ n → take n l ≡ ws → take (n + m) l ≡ ws ++ more → take m (drop n l) ≡ more
-behind n l ws more m long e f =
-    sym (drop-at ws (take m (drop n l)) n long) ∙ ap (λ (x : List ℕ). drop n x) (sym (take-add n m l ∙ ap (λ (x : List ℕ). x ++ take m (drop n l)) e) ∙ f) ∙ drop-at ws more n long
+pub behind : (n : ℕ) (l ws more : List ℕ) (m : ℕ) → length ws ≡ n → take (n + m) l ≡ ws ++ more → take m (drop n l) ≡ more
+behind n l ws more m long e =
+    let first : take n l ≡ ws = sym (take-take n (n + m) l (omega arith)) ∙ ap (take n) e ∙ take-at ws more n long in
+    sym (drop-at ws (take m (drop n l)) n long) ∙ ap (drop n) (sym (take-add n m l ∙ ap (λ (x : List ℕ). x ++ take m (drop n l)) first) ∙ e) ∙ drop-at ws more n long
 
 -- those that are handed out
 pub hands-out : (w : Walk) (seen os : List ℕ) → w .refusal ≡ 0 → length seen ≡ ownWords → length os ≤ rowAnswers * mostRows

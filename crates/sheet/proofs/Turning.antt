@@ -16,8 +16,8 @@ use Rattle.dynamics.specs.declared.call.Length.{Length}
 use Rattle.blocks.specs.Block.{machineOf, answerWords, inputsOf}
 use Rattle.blocks.specs.declared.block.OutputWords.{OutputWords}
 use Rattle.blocks.specs.declared.block.Tick.{Tick}
-use Rattle.sheet.specs.Sheet.{inReach, tickBy}
-use Rattle.sheet.specs.Walk.{Carried, carried, refusedWalk, noted, lookedAt, endOf, movedTo, warned, stretch, putAt, putTwo, putEnd, endIn, surveyedRow, surveyedEnds, emittedRow, updatedRow, startedRow, turnedIn, turned, Left}
+use Rattle.sheet.specs.Sheet.{inReach}
+use Rattle.sheet.specs.Walk.{Carried, carried, refusedWalk, noted, lookedAt, endOf, movedTo, warned, stretch, putAt, putTwo, putEnd, endIn, surveyedRow, surveyedEnds, tickBy, emittedRow, updatedRow, startedRow, turnedIn, turned, Left}
 use Rattle.sheet.specs.declared.row.Row.{Row}
 use Rattle.sheet.specs.declared.walk.Phase.{Phase}
 use Rattle.sheet.specs.declared.walk.Phase.the-variants.{Survey, Start, Emit, Update, Refused}
@@ -25,41 +25,41 @@ use Rattle.sheet.specs.declared.walk.Walk.{Walk}
 use Rattle.sheet.proofs.Stretches.{either}
 
 -- ---- a row that is looked at, by the first thing that is wrong
-module _ {X : Type 0} (column settings words right : X) (len : ℕ) (r : Row) (w : Walk) (l : Length) (told : l ≡ lengthAnswer (machineOf (r .block))) where
-  pub looks-1 : inReach r ≡ false → column ≡ lookedAt len r w column settings words right
+module _ {X : Type 0} (column settings words right : X) (len n : ℕ) (r : Row) (w : Walk) (l : Length) (told : l ≡ lengthAnswer (machineOf (r .block))) where
+  pub looks-1 : inReach n r ≡ false → column ≡ lookedAt len n r w column settings words right
   looks-1 e = rw e refl
 
-  pub looks-2 : inReach r ≡ true → (l .refusal ≡ 0 → ⊥) → settings ≡ lookedAt len r w column settings words right
+  pub looks-2 : inReach n r ≡ true → (l .refusal ≡ 0 → ⊥) → settings ≡ lookedAt len n r w column settings words right
   looks-2 e f = rw (e, ← told, ne-eqb (l .refusal) 0 f) refl
 
-  pub looks-3 : inReach r ≡ true → l .refusal ≡ 0 → leb (w .at + l .length) len ≡ false → words ≡ lookedAt len r w column settings words right
+  pub looks-3 : inReach n r ≡ true → l .refusal ≡ 0 → leb (w .at + l .length) len ≡ false → words ≡ lookedAt len n r w column settings words right
   looks-3 e f g = rw (e, ← told, eq-eqb (l .refusal) 0 f, g) refl
 
-  pub looks-on : inReach r ≡ true → l .refusal ≡ 0 → leb (w .at + l .length) len ≡ true → right ≡ lookedAt len r w column settings words right
+  pub looks-on : inReach n r ≡ true → l .refusal ≡ 0 → leb (w .at + l .length) len ≡ true → right ≡ lookedAt len n r w column settings words right
   looks-on e f g = rw (e, ← told, eq-eqb (l .refusal) 0 f, g) refl
 
 module _ (len n : ℕ) (r : Row) (w : Walk) (seen : List ℕ) (l : Length) (told : l ≡ lengthAnswer (machineOf (r .block))) where
   abbrev Surveyed : Walk → List ℕ → Type 0
   Surveyed w′ seen′ = Gives (surveyedRow len n r w) (surveyedEnds len n r w seen) w′ seen′
 
-  pub surveys-1 : {w′ : Walk} → inReach r ≡ false → w′ ≡ refusedWalk 1 0 → Surveyed w′ seen
+  pub surveys-1 : {w′ : Walk} → inReach n r ≡ false → w′ ≡ refusedWalk 1 0 → Surveyed w′ seen
   unfolding surveyedRow surveyedEnds
-  surveys-1 e d = record { answers = d ∙ looks-1 _ _ _ _ len r w l told e; leaves = looks-1 _ _ _ _ len r w l told e }
+  surveys-1 e d = record { answers = d ∙ looks-1 _ _ _ _ len n r w l told e; leaves = looks-1 _ _ _ _ len n r w l told e }
 
-  pub surveys-2 : {w′ : Walk} → inReach r ≡ true → (l .refusal ≡ 0 → ⊥) → w′ ≡ noted w (l .refusal) n → Surveyed w′ seen
+  pub surveys-2 : {w′ : Walk} → inReach n r ≡ true → (l .refusal ≡ 0 → ⊥) → w′ ≡ noted w (l .refusal) n → Surveyed w′ seen
   unfolding surveyedRow surveyedEnds
-  surveys-2 e f d = record { answers = d ∙ rw told refl ∙ looks-2 _ _ _ _ len r w l told e f; leaves = looks-2 _ _ _ _ len r w l told e f }
+  surveys-2 e f d = record { answers = d ∙ rw told refl ∙ looks-2 _ _ _ _ len n r w l told e f; leaves = looks-2 _ _ _ _ len n r w l told e f }
 
-  pub surveys-3 : {w′ : Walk} → inReach r ≡ true → l .refusal ≡ 0 → leb (w .at + l .length) len ≡ false → w′ ≡ noted w 3 0 → Surveyed w′ seen
+  pub surveys-3 : {w′ : Walk} → inReach n r ≡ true → l .refusal ≡ 0 → leb (w .at + l .length) len ≡ false → w′ ≡ noted w 3 0 → Surveyed w′ seen
   unfolding surveyedRow surveyedEnds
-  surveys-3 e f g d = record { answers = d ∙ looks-3 _ _ _ _ len r w l told e f g; leaves = looks-3 _ _ _ _ len r w l told e f g }
+  surveys-3 e f g d = record { answers = d ∙ looks-3 _ _ _ _ len n r w l told e f g; leaves = looks-3 _ _ _ _ len n r w l told e f g }
 
-  pub surveys-on : {w′ : Walk} {seen′ : List ℕ} → inReach r ≡ true → l .refusal ≡ 0 → leb (w .at + l .length) len ≡ true
+  pub surveys-on : {w′ : Walk} {seen′ : List ℕ} → inReach n r ≡ true → l .refusal ≡ 0 → leb (w .at + l .length) len ≡ true
       → seen′ ≡ putEnd n (w .at + l .length) seen → w′ ≡ movedTo w (w .at + l .length) → Surveyed w′ seen′
   unfolding surveyedRow surveyedEnds
   surveys-on e f g put d = record {
-    answers = d ∙ rw told refl ∙ looks-on (refusedWalk 1 0) (noted w (l .refusal) n) (noted w 3 0) (movedTo w (endOf r w)) len r w l told e f g ∙ rw told refl;
-    leaves = put ∙ rw told refl ∙ looks-on seen seen seen (putEnd n (endOf r w) seen) len r w l told e f g;
+    answers = d ∙ rw told refl ∙ looks-on (refusedWalk 1 0) (noted w (l .refusal) n) (noted w 3 0) (movedTo w (endOf r w)) len n r w l told e f g ∙ rw told refl;
+    leaves = put ∙ rw told refl ∙ looks-on seen seen seen (putEnd n (endOf r w) seen) len n r w l told e f g;
   }
 
 -- ---- a row that works on its stretch, up to this end

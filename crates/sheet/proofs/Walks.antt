@@ -12,7 +12,7 @@ use lib.Ieee.{Float}
 use Rattle.dynamics.proofs.Calls.{length-0, length-2}
 use Rattle.blocks.specs.Block.{machineOf}
 use Rattle.sheet.specs.Rows.{wide, widthOf, every, firstFailing}
-use Rattle.sheet.specs.Sheet.{inReach, settled}
+use Rattle.sheet.specs.Sheet.{inReach, allReach, settled}
 use Rattle.sheet.specs.Walk.{Carried, carried, refusedWalk, isNew, noted, movedTo, putEnd, surveyedRow, surveyedEnds, turnedIn, turned, walked}
 use Rattle.sheet.specs.declared.row.Row.{Row}
 use Rattle.sheet.specs.declared.walk.Phase.{Phase}
@@ -68,25 +68,25 @@ module _ (time : Float) (ws : List ℕ) where
     abbrev here : Walk
     here = midway Survey m j at
 
-    off-row : inReach r ≡ false → over n (r ∷ rs) here seen ≡ carried (refusedWalk 1 0) ws seen
+    off-row : inReach n r ≡ false → over n (r ∷ rs) here seen ≡ carried (refusedWalk 1 0) ws seen
     unfolding walked turned turnedIn surveyedRow surveyedEnds
     off-row e = rw e (passes-by time (n + 1) rs 1 0 ws seen)
 
-    on-unsettled : inReach r ≡ true → settled r ≡ false → over n (r ∷ rs) here seen ≡ over (n + 1) rs (noted here 2 n) seen
+    on-unsettled : inReach n r ≡ true → settled r ≡ false → over n (r ∷ rs) here seen ≡ over (n + 1) rs (noted here 2 n) seen
     unfolding walked turned turnedIn surveyedRow surveyedEnds
     on-unsettled e s = rw (e, length-2 (machineOf (r .block)) s) refl
 
-    on-outside : inReach r ≡ true → settled r ≡ true → leb (at + wide r) (length ws) ≡ false → over n (r ∷ rs) here seen ≡ over (n + 1) rs (noted here 3 0) seen
+    on-outside : inReach n r ≡ true → settled r ≡ true → leb (at + wide r) (length ws) ≡ false → over n (r ∷ rs) here seen ≡ over (n + 1) rs (noted here 3 0) seen
     unfolding walked turned turnedIn surveyedRow surveyedEnds
     on-outside e s l = rw (e, length-0 (machineOf (r .block)) s, l) refl
 
-    on-inside : inReach r ≡ true → settled r ≡ true → leb (at + wide r) (length ws) ≡ true → over n (r ∷ rs) here seen ≡ over (n + 1) rs (movedTo here (at + wide r)) (putEnd n (at + wide r) seen)
+    on-inside : inReach n r ≡ true → settled r ≡ true → leb (at + wide r) (length ws) ≡ true → over n (r ∷ rs) here seen ≡ over (n + 1) rs (movedTo here (at + wide r)) (putEnd n (at + wide r) seen)
     unfolding walked turned turnedIn surveyedRow surveyedEnds
     on-inside e s l = rw (e, length-0 (machineOf (r .block)) s, l) refl
 
   -- a column out of reach ends it
-  pub out-of-reach : (n : ℕ) (rs : List Row) (m j at : ℕ) (seen : List ℕ) → every inReach rs ≡ false → Finds (over n rs (midway Survey m j at) seen) 1 0 ws
-  unfolding every
+  pub out-of-reach : (n : ℕ) (rs : List Row) (m j at : ℕ) (seen : List ℕ) → allReach n rs ≡ false → Finds (over n rs (midway Survey m j at) seen) 1 0 ws
+  unfolding allReach
   out-of-reach n [] m j at seen e = absurd (true≢false e)
   out-of-reach n (r ∷ rs) m j at seen e = ⊎-elim
       (λ t. let rest = rw t at e in ⊎-elim
@@ -97,14 +97,14 @@ module _ (time : Float) (ws : List ℕ) where
       (λ s. rw (on-unsettled r rs n m j at seen t s) (out-of-reach (n + 1) rs _ _ at seen rest))
       (either (settled r)))
       (λ f. rw (off-row r rs n m j at seen f) (as-found (refusedWalk 1 0) ws seen))
-      (either (inReach r))
+      (either (inReach n r))
 
   -- settings that were refused stay the fault, but for a column out of reach
-  two-stays : (n : ℕ) (rs : List Row) (j at : ℕ) (seen : List ℕ) → every inReach rs ≡ true → Finds (over n rs (midway Survey 2 j at) seen) 2 j ws
-  unfolding every walked
+  two-stays : (n : ℕ) (rs : List Row) (j at : ℕ) (seen : List ℕ) → allReach n rs ≡ true → Finds (over n rs (midway Survey 2 j at) seen) 2 j ws
+  unfolding allReach walked
   two-stays n [] j at seen e = as-found (midway Survey 2 j at) ws seen
   two-stays n (r ∷ rs) j at seen e =
-      let (t, u) = both (inReach r) (every inReach rs) e in
+      let (t, u) = both (inReach n r) (allReach (n + 1) rs) e in
       ⊎-elim
       (λ s. ⊎-elim
       (λ l. rw (on-inside r rs n 2 j at seen t s l) (two-stays (n + 1) rs j (at + wide r) (putEnd n (at + wide r) seen) u))
@@ -114,11 +114,11 @@ module _ (time : Float) (ws : List ℕ) where
       (either (settled r))
 
   -- the topmost row whose settings are refused
-  pub unsettled : (n : ℕ) (rs : List Row) (m j at : ℕ) (seen : List ℕ) → Above 2 m → every inReach rs ≡ true → every settled rs ≡ false → Finds (over n rs (midway Survey m j at) seen) 2 (n + firstFailing settled rs) ws
-  unfolding every firstFailing
+  pub unsettled : (n : ℕ) (rs : List Row) (m j at : ℕ) (seen : List ℕ) → Above 2 m → allReach n rs ≡ true → every settled rs ≡ false → Finds (over n rs (midway Survey m j at) seen) 2 (n + firstFailing settled rs) ws
+  unfolding allReach every firstFailing
   unsettled n [] m j at seen h e f = absurd (true≢false f)
   unsettled n (r ∷ rs) m j at seen h e f =
-      let (t, u) = both (inReach r) (every inReach rs) e in
+      let (t, u) = both (inReach n r) (allReach (n + 1) rs) e in
       ⊎-elim
       (λ s. let rest = rw s at f in rw (s, next (firstFailing settled rs)) (⊎-elim
       (λ l. rw (on-inside r rs n m j at seen t s l) (unsettled (n + 1) rs m j (at + wide r) (putEnd n (at + wide r) seen) h u rest))
@@ -134,11 +134,11 @@ module _ (time : Float) (ws : List ℕ) where
       here-is = omega arith
 
   -- words that are not there stay the fault, where no setting is refused
-  three-stays : (n : ℕ) (rs : List Row) (j at : ℕ) (seen : List ℕ) → every inReach rs ≡ true → every settled rs ≡ true → Finds (over n rs (midway Survey 3 j at) seen) 3 j ws
-  unfolding every walked
+  three-stays : (n : ℕ) (rs : List Row) (j at : ℕ) (seen : List ℕ) → allReach n rs ≡ true → every settled rs ≡ true → Finds (over n rs (midway Survey 3 j at) seen) 3 j ws
+  unfolding allReach every walked
   three-stays n [] j at seen e f = as-found (midway Survey 3 j at) ws seen
   three-stays n (r ∷ rs) j at seen e f =
-      let (t, u) = both (inReach r) (every inReach rs) e in
+      let (t, u) = both (inReach n r) (allReach (n + 1) rs) e in
       let (s, v) = both (settled r) (every settled rs) f in
       ⊎-elim
       (λ l. rw (on-inside r rs n 3 j at seen t s l) (three-stays (n + 1) rs j (at + wide r) (putEnd n (at + wide r) seen) u v))
@@ -150,11 +150,11 @@ module _ (time : Float) (ws : List ℕ) where
     missing : Finds c 3 0 ws → Misfits c
     over-left : Finds c 0 0 ws → (c .found .at ≡ length ws → ⊥) → Misfits c
 
-  pub misfit : (n : ℕ) (rs : List Row) (at : ℕ) (seen : List ℕ) → every inReach rs ≡ true → every settled rs ≡ true → (at + widthOf rs ≡ length ws → ⊥) → Misfits (over n rs (midway Survey 0 0 at) seen)
-  unfolding every walked widthOf
+  pub misfit : (n : ℕ) (rs : List Row) (at : ℕ) (seen : List ℕ) → allReach n rs ≡ true → every settled rs ≡ true → (at + widthOf rs ≡ length ws → ⊥) → Misfits (over n rs (midway Survey 0 0 at) seen)
+  unfolding allReach every walked widthOf
   misfit n [] at seen e f off = over-left (as-found (midway Survey 0 0 at) ws seen) (λ z. off (let y : at + 0 ≡ at = omega arith in y ∙ z))
   misfit n (r ∷ rs) at seen e f off =
-      let (t, u) = both (inReach r) (every inReach rs) e in
+      let (t, u) = both (inReach n r) (allReach (n + 1) rs) e in
       let (s, v) = both (settled r) (every settled rs) f in
       ⊎-elim
       (λ l. rw (on-inside r rs n 0 0 at seen t s l) (misfit (n + 1) rs (at + wide r) (putEnd n (at + wide r) seen) u v (λ z. off (assoc ∙ z))))
@@ -165,10 +165,10 @@ module _ (time : Float) (ws : List ℕ) where
       assoc = omega arith
 
   -- no row at fault: it ends at the region's end
-  pub unharmed : (n : ℕ) (rs : List Row) (at : ℕ) (seen : List ℕ) → at + widthOf rs ≡ length ws → every inReach rs ≡ true → every settled rs ≡ true → over n rs (midway Survey 0 0 at) seen ≡ carried (midway Survey 0 0 (length ws)) ws (ended n rs at seen)
-  unfolding every walked widthOf ended
+  pub unharmed : (n : ℕ) (rs : List Row) (at : ℕ) (seen : List ℕ) → at + widthOf rs ≡ length ws → allReach n rs ≡ true → every settled rs ≡ true → over n rs (midway Survey 0 0 at) seen ≡ carried (midway Survey 0 0 (length ws)) ws (ended n rs at seen)
+  unfolding allReach every walked widthOf ended
   unharmed n [] at seen all e f = let z : at + 0 ≡ at = omega arith in rw (← all, z) refl
   unharmed n (r ∷ rs) at seen all e f =
-      let (t, u) = both (inReach r) (every inReach rs) e in
+      let (t, u) = both (inReach n r) (allReach (n + 1) rs) e in
       let (s, v) = both (settled r) (every settled rs) f in
       rw (on-inside r rs n 0 0 at seen t s (le-leb (at + wide r) (length ws) (omega (arith, all)))) (unharmed (n + 1) rs (at + wide r) (putEnd n (at + wide r) seen) (omega (arith, all)) u v)

@@ -7,10 +7,10 @@ use Rattle.dynamics.specs.History.{Account, Wiping, wiped, retold, grownThrough
 use Rattle.blocks.specs.Block.{machineOf}
 use Rattle.blocks.specs.Wiping.{accountOf}
 use Rattle.blocks.proofs.Wiping as blocks
-use Rattle.sheet.specs.Sheet.{tickLeft}
-use Rattle.sheet.specs.Single.{nowHas, shownAs, RunsSingly}
+use Rattle.sheet.specs.Sheet.{tickLeft, tickAnswers}
+use Rattle.sheet.specs.Single.{TicksSingly, shownAs, RunsSingly}
 use Rattle.sheet.specs.Wiping.{WipedRow, blockOf, wipingTick, receivedSince, RowRetold, WipedAlike, ShowAlike}
-use Rattle.sheet.proofs.Single.{tick-accepts, tick-singly}
+use Rattle.sheet.proofs.Single.{tick-singly}
 use Rattle.sheet.proofs.Runs.{run-singly}
 
 module _ (x : WipedRow) where
@@ -24,14 +24,16 @@ module _ (x : WipedRow) where
   abbrev begun : List ℕ
   begun = wordsAfter M (x .row .words) (updates (wipingTick x))
 
+  singly : TicksSingly (x .tick .tick) (x .rows) (x .row) (x .place) (tickLeft (x .tick .tick) (x .rows) (x .region) (x .space)) (tickAnswers (x .tick .tick) (x .rows) (x .region) (x .space))
+  singly = tick-singly (x .tick .tick) (x .rows) (x .region) (x .space) (x .accepted) _ _ _ (record { answer = refl; region = refl; answers = refl }) (x .place) (x .row) (x .there)
+
   -- the wiping tick is one of the row's own block
   own : Wiping A M (x .row .words) (wipingTick x)
-  own = record { accepted = tick-accepts (x .tick .tick) (x .rows) (x .region) (x .space) (x .accepted) (x .place) (x .row) (x .there); wiping = x .wiping }
+  own = record { accepted = singly .accepts; wiping = x .wiping }
 
-  runs : RunsSingly (x .rows) (x .space) (tickLeft (x .tick .tick) (x .rows) (x .region) (x .space)) (x .place) (nowHas (x .row) begun) (x .since)
+  runs : RunsSingly (x .rows) (x .space) (tickLeft (x .tick .tick) (x .rows) (x .region) (x .space)) (x .place) (record { row = x .row .row; words = begun }) (x .since)
   unfolding wordsAfter
-  runs = run-singly (x .rows) (x .space) _ (x .place) _ (x .since)
-      (tick-singly (x .tick .tick) (x .rows) (x .region) (x .space) _ _ _ (record { answer = refl; region = refl; answers = refl }) (x .accepted) (x .place) (x .row) (x .there) .leaves)
+  runs = run-singly (x .rows) (x .space) _ (x .place) _ (x .since) (singly .leaves)
 
   -- over any further ticks of the sheet
   pub row-retold : RowRetold x

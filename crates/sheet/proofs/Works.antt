@@ -1,5 +1,5 @@
 -- What the walks that write leave: each row's work on its own stretch, end to end. Assumes nothing.
-use Prim.Native.Nat.{ℕ, _+_, _≤_, _<_}
+use Prim.Native.Nat.{ℕ, _+_, _*_, _≤_, _<_}
 use native.Mathlib.Omega.{arith}
 use mathlib.Core.Path.{_≡_, refl, sym, _∙_}
 use mathlib.Core.Bool.{Bool, true, false, _||_, or-assoc, or-false}
@@ -9,20 +9,19 @@ use lib.Dec.{leb}
 use lib.ListN.{length, take, drop, getD}
 use lib.Seq.{take-all}
 use lib.Ieee.{Float}
-use Rattle.dynamics.specs.Machine.{updateAnswer, updatedWords}
 use Rattle.dynamics.proofs.Calls.{length-0}
-use Rattle.blocks.specs.Block.{machineOf, inputsOf}
+use Rattle.blocks.specs.Block.{machineOf, ticked}
 use Rattle.blocks.specs.declared.block.Tick.{Tick}
 use Rattle.blocks.proofs.Lengths.{started-length, updated-length}
 use Rattle.sheet.specs.Rows.{wide, widthOf, Placed, placed, every, anyOf, joined}
-use Rattle.sheet.specs.Sheet.{mostRows, inputWords, inReach, settled, startsOn, rowTick}
+use Rattle.sheet.specs.Sheet.{mostRows, inputWords, rowAnswers, inReach, settled, startsOn, rowTick, feed, warnsOf, leftOf}
 use Rattle.sheet.specs.Walk.{endsAt, Carried, carried, updatedRow, startedRow, turnedIn, turned, walked}
 use Rattle.sheet.specs.declared.row.Row.{Row}
 use Rattle.sheet.specs.declared.walk.Phase.the-variants.{Start, Update}
 use Rattle.sheet.specs.declared.walk.Walk.{Walk}
 use Rattle.sheet.proofs.Stretches.{both, cut, patched, take-put, drop-put, length-put, cut-length, up-to}
 use Rattle.sheet.proofs.Ends.{EndsAre}
-use Rattle.sheet.proofs.Emits.{sees}
+use Rattle.sheet.proofs.Feeding.{sees}
 
 -- one row's work in its place is what the rows make from here on, before the rest is done
 module _ (f : Placed → List ℕ) (r : Row) (rs : List Row) (at : ℕ) (ws : List ℕ) (all : at + (wide r + widthOf rs) ≡ length ws) where
@@ -93,24 +92,26 @@ module _ (time : Float) where
 abbrev pub updateFrom : ℕ → Bool → Walk
 updateFrom at warning = record { phase = Update; refusal = 0; row = 0; at = at; warning = warning }
 
-module _ (k : Tick) (seen : List ℕ) (eight : take inputWords seen ≡ k .words) where
+-- the answers of all rows, so many, are in sight, and each row reads of them what its emit saw
+module _ (k : Tick) (answers seen : List ℕ) (many : ℕ) (eight : length (k .words) ≡ inputWords) (sight : take (inputWords + rowAnswers * many) seen ≡ k .words ++ answers) where
   abbrev pub leaves : Placed → List ℕ
-  leaves p = updatedWords (machineOf (p .row .block)) (k .time) (inputsOf (rowTick k (p .row))) (p .words)
+  leaves p = leftOf (feed k answers p)
 
   abbrev pub warns : Placed → Bool
-  warns p = updateAnswer (machineOf (p .row .block)) (k .time) (inputsOf (rowTick k (p .row))) (p .words) .warning
+  warns p = warnsOf (feed k answers p)
 
   module _ (n : ℕ) (r : Row) (rs : List Row) (at : ℕ) (warning : Bool) (ws : List ℕ) (all : at + (wide r + widthOf rs) ≡ length ws) where
     abbrev p : Placed
     p = own leaves r rs at ws all
 
     same : length (leaves p) ≡ wide r
-    same = updated-length (r .block) (k .time) _ (p .words) ∙ own-length leaves r rs at ws all
+    unfolding ticked
+    same = updated-length (r .block) _ _ (p .words) ∙ own-length leaves r rs at ws all
 
-    update-step : n < mostRows → getD seen (endsAt + n) 0 ≡ at + wide r → inReach r ≡ true → walked (k .time) n (r ∷ rs) (carried (updateFrom at warning) ws seen)
+    update-step : n < mostRows → getD seen (endsAt + n) 0 ≡ at + wide r → inReach many r ≡ true → walked (k .time) n (r ∷ rs) (carried (updateFrom at warning) ws seen)
         ≡ walked (k .time) (n + 1) rs (carried (updateFrom (at + wide r) (warning || warns p)) (done leaves r rs at ws all same) seen)
-    unfolding walked turned turnedIn updatedRow
-    update-step h e t = rw (lt-ltb n mostRows h, e, ahead leaves r rs at ws all, next-at leaves r rs at ws all, up-to at (wide r), sees k seen r eight t) refl
+    unfolding walked turned turnedIn updatedRow ticked rowTick
+    update-step h e t = rw (lt-ltb n mostRows h, e, ahead leaves r rs at ws all, next-at leaves r rs at ws all, up-to at (wide r), sees k answers many r t seen eight sight) refl
 
     abbrev rest : List Placed
     rest = placed rs (drop (at + wide r) (done leaves r rs at ws all same))
@@ -119,7 +120,7 @@ module _ (k : Tick) (seen : List ℕ) (eight : take inputWords seen ≡ k .words
     unfolding placed anyOf
     warning-step = rw (behind leaves r rs at ws all same) (or-assoc warning _ _)
 
-  pub updated : (n : ℕ) (rs : List Row) (at : ℕ) (warning : Bool) (ws : List ℕ) → at + widthOf rs ≡ length ws → n + length rs ≤ mostRows → EndsAre n rs at seen → every inReach rs ≡ true
+  pub updated : (n : ℕ) (rs : List Row) (at : ℕ) (warning : Bool) (ws : List ℕ) → at + widthOf rs ≡ length ws → n + length rs ≤ mostRows → EndsAre n rs at seen → every (inReach many) rs ≡ true
       → Works (walked (k .time) n rs (carried (updateFrom at warning) ws seen)) (warning || anyOf warns (placed rs (drop at ws)))
       (take at ws ++ joined leaves (placed rs (drop at ws))) seen
   unfolding walked widthOf every EndsAre
@@ -131,7 +132,7 @@ module _ (k : Tick) (seen : List ℕ) (eight : take inputWords seen ≡ k .words
     seen-is = refl;
   }
   updated n (r ∷ rs) at warning ws all f here e =
-      let (t, u) = both (inReach r) (every inReach rs) e in
+      let (t, u) = both (inReach many r) (every (inReach many) rs) e in
       rw (
         update-step n r rs at warning ws all (omega (arith, f)) (here .0) t,
         ← warning-step n r rs at warning ws all,

@@ -1,8 +1,8 @@
 -- The bench sheet: which number a start and a tick of a sheet give, what they answer and what they leave. Definitions only.
-use Prim.Native.Nat.{ℕ, _*_}
+use Prim.Native.Nat.{ℕ, _+_, _-_, _*_}
 use mathlib.Core.Path.{_≡_}
-use mathlib.Core.Bool.{Bool, false, not, _&&_, cond}
-use mathlib.Core.List.{List, [], _∷_}
+use mathlib.Core.Bool.{Bool, true, false, not, _&&_, _||_, cond}
+use mathlib.Core.List.{List, [], _∷_, _++_}
 use lib.Dec.{eqb, ltb, leb}
 use lib.ListN.{length, getD}
 use lib.Ieee.{Float}
@@ -29,12 +29,20 @@ rowAnswers = 2
 
 -- ---- the tests, each over all rows
 
--- 1: 1 to 16 rows, and each column names an input word
+-- 1: 1 to 16 rows, and each column of row n names a word of the tick, or an answer word of a row further up
 abbrev pub fewRows : ℕ → Bool
 fewRows n = leb 1 n && leb n mostRows
 
-abbrev pub inReach : Row → Bool
-inReach r = ltb (r .first) inputWords && (ltb (r .second) inputWords && ltb (r .third) inputWords)
+abbrev pub names : ℕ → ℕ → Bool
+names n column = ltb column inputWords || ltb (column - inputWords) (rowAnswers * n)
+
+abbrev pub inReach : ℕ → Row → Bool
+inReach n r = names n (r .first) && (names n (r .second) && names n (r .third))
+
+-- all rows', of which the first is row n
+unfoldable pub allReach : ℕ → List Row → Bool
+allReach n [] = true
+allReach n (r ∷ rs) = inReach n r && allReach (n + 1) rs
 
 -- 2: a row's settings
 abbrev pub settled : Row → Bool
@@ -49,11 +57,11 @@ onTime time p = not (runsBack time (machineOf (p .row .block) .previous (p .word
 
 -- ---- the number: that of the first test that fails, 0 if none does
 unfoldable pub startNumber : List Row → List ℕ → ℕ
-startNumber rs ws = refusalOf (fewRows (length rs) && every inReach rs) (every settled rs) (eqb (length ws) (widthOf rs)) skipped skipped skipped skipped
+startNumber rs ws = refusalOf (fewRows (length rs) && allReach 0 rs) (every settled rs) (eqb (length ws) (widthOf rs)) skipped skipped skipped skipped
 
 unfoldable pub tickNumber : Float → List Row → List ℕ → List ℕ → ℕ
 tickNumber time rs ws os =
-    refusalOf (fewRows (length rs) && every inReach rs) (every settled rs) (eqb (length ws) (widthOf rs)) (eqb (length os) (rowAnswers * length rs))
+    refusalOf (fewRows (length rs) && allReach 0 rs) (every settled rs) (eqb (length ws) (widthOf rs)) (eqb (length os) (rowAnswers * length rs))
     (finite time) (every decodes (placed rs ws)) (every (onTime time) (placed rs ws))
 
 -- the row at fault: for 2, 6 and 7 the topmost, else 0
@@ -86,46 +94,63 @@ pub record SheetStarted (rs : List Row) (ws : List ℕ) (r : SheetAnswer) (left 
   pub answer : r ≡ startSaid rs ws
   pub region : left ≡ startLeft rs ws
 
--- ---- a tick: all rows emit on the words that stand there, then all update
--- a row's own tick: of these words its columns name its inputs
-unfoldable pub tickBy : Float → List ℕ → Row → Tick
-tickBy time ws r = record {
-  time = time;
-  words = getD ws (r .first) 0 ∷ getD ws (r .second) 0 ∷ getD ws (r .third) 0 ∷ 0 ∷ 0 ∷ 0 ∷ 0 ∷ 0 ∷ [];
+-- ---- a tick: emits run from the top, each on the words that stand in its stretch; then all rows update, each with the inputs that its emit saw
+-- the word that a column names: below 8 one of the tick's, from 8 on an answer word of this tick, handed on as its bits
+abbrev pub namedWord : Tick → List ℕ → ℕ → ℕ
+namedWord k answers column = cond (ltb column inputWords) (getD (k .words) column 0) (getD answers (column - inputWords) 0)
+
+-- a row's own tick, where these are the answer words of the rows above it
+unfoldable pub rowTick : Tick → List ℕ → Row → Tick
+rowTick k above r = record {
+  time = k .time;
+  words = namedWord k above (r .first) ∷ namedWord k above (r .second) ∷ namedWord k above (r .third) ∷ 0 ∷ 0 ∷ 0 ∷ 0 ∷ 0 ∷ [];
 }
 
--- they are the tick's
-abbrev pub rowTick : Tick → Row → Tick
-rowTick k r = tickBy (k .time) (k .words) r
+-- a row on its stretch, with the tick that it received
+pub record Fed : Type 0 where
+  pub row : Row
+  pub words : List ℕ
+  pub received : Tick
 
--- the row's block run singly on its own stretch
-abbrev pub rowTicked : Tick → Placed → Ticked
-rowTicked k p = ticked (p .row .block) (rowTick k (p .row)) (p .words)
+-- its block run singly on what it received: its two answer words, whether its update warns, and the words that its update leaves
+abbrev pub rowTicked : Fed → Ticked
+rowTicked q = ticked (q .row .block) (q .received) (q .words)
 
--- its two answer words, whether its update warns, and the words that its update leaves
 abbrev pub twoWords : OutputWords → List ℕ
 twoWords two = two .first ∷ two .second ∷ []
 
-abbrev pub answersOf : Tick → Placed → List ℕ
-answersOf k p = twoWords (answerWords (p .row .block) (rowTicked k p .emitted))
+abbrev pub answersOf : Fed → List ℕ
+answersOf q = twoWords (answerWords (q .row .block) (rowTicked q .emitted))
 
-abbrev pub warnsOf : Tick → Placed → Bool
-warnsOf k p = rowTicked k p .updated .warning
+abbrev pub warnsOf : Fed → Bool
+warnsOf q = rowTicked q .updated .warning
 
-abbrev pub leftOf : Tick → Placed → List ℕ
-leftOf k p = rowTicked k p .left
+abbrev pub leftOf : Fed → List ℕ
+leftOf q = rowTicked q .left
+
+-- from the top: what a row answers stands above the next one
+abbrev pub feed : Tick → List ℕ → Placed → Fed
+feed k above p = record { row = p .row; words = p .words; received = rowTick k above (p .row) }
+
+unfoldable pub fedBelow : Tick → List ℕ → List Placed → List Fed
+fedBelow k above [] = []
+fedBelow k above (p ∷ ps) = feed k above p ∷ fedBelow k (above ++ answersOf (feed k above p)) ps
+
+-- all rows of a sheet, each with what it received
+abbrev pub fed : Tick → List Row → List ℕ → List Fed
+fed k rs ws = fedBelow k [] (placed rs ws)
 
 -- what a tick answers, and the region and the answers that it leaves
 unfoldable pub tickSaid : Tick → List Row → List ℕ → List ℕ → SheetAnswer
 tickSaid k rs ws os =
     let n = tickNumber (k .time) rs ws os in
-    accept n (record { refusal = 0; row = 0; warning = anyOf (warnsOf k) (placed rs ws) }) (refusing n (rowAtFault n (k .time) rs ws))
+    accept n (record { refusal = 0; row = 0; warning = anyOf warnsOf (fed k rs ws) }) (refusing n (rowAtFault n (k .time) rs ws))
 
 abbrev pub tickLeft : Tick → List Row → List ℕ → List ℕ → List ℕ
-tickLeft k rs ws os = accept (tickNumber (k .time) rs ws os) (joined (leftOf k) (placed rs ws)) ws
+tickLeft k rs ws os = accept (tickNumber (k .time) rs ws os) (joined leftOf (fed k rs ws)) ws
 
 abbrev pub tickAnswers : Tick → List Row → List ℕ → List ℕ → List ℕ
-tickAnswers k rs ws os = accept (tickNumber (k .time) rs ws os) (joined (answersOf k) (placed rs ws)) os
+tickAnswers k rs ws os = accept (tickNumber (k .time) rs ws os) (joined answersOf (fed k rs ws)) os
 
 pub record SheetTicked (k : Tick) (rs : List Row) (ws os : List ℕ) (r : SheetAnswer) (left out : List ℕ) : Type 0 where
   pub answer : r ≡ tickSaid k rs ws os

@@ -6,13 +6,14 @@ use lib.Dec.{T}
 use lib.ListN.{take, drop}
 use lib.Ieee.{Float, binary64, fits}
 use Rattle.dynamics.specs.Answer.{accept}
-use Rattle.dynamics.specs.Machine.{startRefusal, tickRefusal, startedWords, emitAnswer, updatedWords, Call, ticks, Seen, run, leftAfter}
-use Rattle.dynamics.specs.Machine as Machine
+use Rattle.dynamics.specs.Machine.{Machine, startRefusal, tickRefusal, startedWords, emitAnswer, updatedWords, Call, ticks, Seen, run, leftAfter}
+use Rattle.dynamics.specs.Machine as call
+use Rattle.dynamics.specs.declared.call.Inputs.{Inputs}
 use Rattle.blocks.specs.Block.{machineOf, inputsOf, answerWords}
 use Rattle.blocks.specs.declared.block.Block.{Block}
 use Rattle.blocks.specs.declared.block.Tick.{Tick}
 use Rattle.sheet.specs.Rows.{Placed, placed}
-use Rattle.sheet.specs.Sheet.{rowAnswers, tickNumber, rowTick, twoWords, tickLeft, tickAnswers}
+use Rattle.sheet.specs.Sheet.{rowAnswers, tickNumber, rowTick, Fed, twoWords, fed, tickLeft, tickAnswers}
 use Rattle.sheet.specs.declared.row.Row.{Row}
 
 -- x stands at place n of a list, from 0
@@ -30,11 +31,20 @@ pub record StartsSingly (rs : List Row) (p : Placed) (n : ℕ) (left : List ℕ)
   pub accepts : startRefusal (machineOf (p .row .block)) (p .words) ≡ 0
   pub leaves : At n (nowHas p (startedWords (machineOf (p .row .block)) (p .words))) (placed rs left)
 
--- row n after an accepted tick: its block's own emit and update are accepted, its two answer words are those of the emit, and its stretch is what the update leaves
-pub record TicksSingly (k : Tick) (rs : List Row) (p : Placed) (n : ℕ) (left out : List ℕ) : Type 0 where
-  pub accepts : tickRefusal (machineOf (p .row .block)) (k .time) (p .words) ≡ 0
-  pub answers : take rowAnswers (drop (rowAnswers * n) out) ≡ twoWords (answerWords (p .row .block) (emitAnswer (machineOf (p .row .block)) (k .time) (inputsOf (rowTick k (p .row))) (p .words)))
-  pub leaves : At n (nowHas p (updatedWords (machineOf (p .row .block)) (k .time) (inputsOf (rowTick k (p .row))) (p .words))) (placed rs left)
+-- row n after an accepted tick: it received the words that its columns name, of the tick's and of those that this tick answers; its block's own emit and
+-- update on these are accepted, its two answer words are those of the emit, and its stretch is what the update leaves
+module _ (k : Tick) (rs : List Row) (q : Fed) (n : ℕ) (left out : List ℕ) where
+  abbrev M : Machine
+  M = machineOf (q .row .block)
+
+  abbrev inputs : Inputs
+  inputs = inputsOf (q .received)
+
+  pub record TicksSingly : Type 0 where
+    pub receives : q .received ≡ rowTick k out (q .row)
+    pub accepts : tickRefusal M (k .time) (q .words) ≡ 0
+    pub answers : take rowAnswers (drop (rowAnswers * n) out) ≡ twoWords (answerWords (q .row .block) (emitAnswer M (k .time) inputs (q .words)))
+    pub leaves : At n (record { row = q .row; words = updatedWords M (k .time) inputs (q .words) }) (placed rs left)
 
 -- ---- any ticks of a sheet, refused ones too
 -- a tick that a call brings: its time is an f64
@@ -42,9 +52,15 @@ pub record Brought : Type 0 where
   pub tick : Tick
   pub is-f64 : T (fits binary64 (tick .time))
 
--- the row's own tick, as a call of its block
-abbrev pub ownTick : Brought → Row → Machine.Tick
-ownTick k r = record { time = k .tick .time; is-f64 = k .is-f64; inputs = inputsOf (rowTick (k .tick) r) }
+-- what a row received, as a tick of its block
+abbrev pub ownTick : Brought → Fed → call.Tick
+ownTick k q = record { time = k .tick .time; is-f64 = k .is-f64; inputs = inputsOf (q .received) }
+
+-- row n's call, if there is such a row
+unfoldable pub callOf : ℕ → Brought → List Fed → List Call
+callOf n k [] = []
+callOf zero k (q ∷ qs) = ticks (ownTick k q) ∷ []
+callOf (suc n) k (q ∷ qs) = callOf n k qs
 
 -- what is seen of a row at an accepted tick: its two answer words, and the stretch that it leaves
 pub record RowSeen : Type 0 where
@@ -62,14 +78,14 @@ module _ (rs : List Row) (space : List ℕ) where
   sheetAfter ws [] = ws
   sheetAfter ws (k ∷ ks) = sheetAfter (tickLeft (k .tick) rs ws space) ks
 
-  -- this, if the sheet accepts the tick
-  abbrev ifAccepted : {X : Type 0} → Brought → List ℕ → X → List X
-  ifAccepted k ws x = accept (tickNumber (k .tick .time) rs ws space) (x ∷ []) []
+  -- these, if the sheet accepts the tick
+  abbrev ifAccepted : {X : Type 0} → Brought → List ℕ → List X → List X
+  ifAccepted k ws xs = accept (tickNumber (k .tick .time) rs ws space) xs []
 
-  -- the calls that a row's block received: a whole tick for each one that the sheet accepted
-  unfoldable pub received : Row → List ℕ → List Brought → List Call
-  received r ws [] = []
-  received r ws (k ∷ ks) = ifAccepted k ws (ticks (ownTick k r)) ++ received r (tickLeft (k .tick) rs ws space) ks
+  -- the calls that row n's block received: a whole tick for each one that the sheet accepted
+  unfoldable pub received : ℕ → List ℕ → List Brought → List Call
+  received n ws [] = []
+  received n ws (k ∷ ks) = ifAccepted k ws (callOf n k (fed (k .tick) rs ws)) ++ received n (tickLeft (k .tick) rs ws space) ks
 
   -- and what was seen of row n then
   abbrev pub seenAt : ℕ → Brought → List ℕ → RowSeen
@@ -77,7 +93,7 @@ module _ (rs : List Row) (space : List ℕ) where
 
   unfoldable pub seenOf : ℕ → List ℕ → List Brought → List RowSeen
   seenOf n ws [] = []
-  seenOf n ws (k ∷ ks) = ifAccepted k ws (seenAt n k ws) ++ seenOf n (tickLeft (k .tick) rs ws space) ks
+  seenOf n ws (k ∷ ks) = ifAccepted k ws (seenAt n k ws ∷ []) ++ seenOf n (tickLeft (k .tick) rs ws space) ks
 
 -- a call of a block, shown as a row's
 abbrev pub shownAs : Block → Seen → RowSeen
@@ -86,7 +102,7 @@ shownAs b s = record { answers = twoWords (answerWords b (s .answer)); stretch =
 -- A sheet's row over any ticks: its block, run singly on the calls that the row received, shows all that is seen of the row and leaves its stretch.
 module _ (rs : List Row) (space ws : List ℕ) (n : ℕ) (p : Placed) (ks : List Brought) where
   abbrev pub calls : List Call
-  calls = received rs space (p .row) ws ks
+  calls = received rs space n ws ks
 
   pub record RunsSingly : Type 0 where
     pub shows : seenOf rs space n ws ks ≡ map (shownAs (p .row .block)) (run (machineOf (p .row .block)) (p .words) calls)

@@ -11,7 +11,7 @@ use Rattle.dynamics.specs.Machine.{lengthAnswer, startedWords, emitAnswer, upda
 use Rattle.blocks.specs.Block.{machineOf, answerWords, inputsOf}
 use Rattle.blocks.specs.declared.block.OutputWords.{OutputWords}
 use Rattle.blocks.specs.declared.block.Tick.{Tick}
-use Rattle.sheet.specs.Sheet.{mostRows, inputWords, rowAnswers, fewRows, inReach, tickBy}
+use Rattle.sheet.specs.Sheet.{mostRows, inputWords, rowAnswers, fewRows, inReach}
 use Rattle.sheet.specs.declared.row.Row.{Row}
 use Rattle.sheet.specs.declared.row.SheetAnswer.{SheetAnswer}
 use Rattle.sheet.specs.declared.walk.Phase.{Phase}
@@ -93,17 +93,28 @@ endIn seen n = cond (ltb n mostRows) (getD seen (endsAt + n) 0) 0
 abbrev pub endOf : Row → Walk → ℕ
 endOf r w = w .at + lengthAnswer (machineOf (r .block)) .length
 
+-- the larger of two columns
+abbrev pub larger : ℕ → ℕ → ℕ
+larger a b = cond (ltb a b) b a
+
 -- by the first that is wrong: a column, the settings, that the row's words lie in a region of so many
-abbrev pub lookedAt : {X : Type 0} → ℕ → Row → Walk → (column settings words : X) → X → X
-lookedAt len r w column settings words right =
-    cond (inReach r) (cond (eqb (lengthAnswer (machineOf (r .block)) .refusal) 0) (cond (leb (endOf r w) len) right words) settings) column
+abbrev pub lookedAt : {X : Type 0} → ℕ → ℕ → Row → Walk → (column settings words : X) → X → X
+lookedAt len n r w column settings words right =
+    cond (inReach n r) (cond (eqb (lengthAnswer (machineOf (r .block)) .refusal) 0) (cond (leb (endOf r w) len) right words) settings) column
 
 -- a survey: tests 1 and 2, and of test 3 that the words are there; where they end is noted
 unfoldable pub surveyedRow : ℕ → ℕ → Row → Walk → Walk
-surveyedRow len n r w = lookedAt len r w (refusedWalk 1 0) (noted w (lengthAnswer (machineOf (r .block)) .refusal) n) (noted w 3 0) (movedTo w (endOf r w))
+surveyedRow len n r w = lookedAt len n r w (refusedWalk 1 0) (noted w (lengthAnswer (machineOf (r .block)) .refusal) n) (noted w 3 0) (movedTo w (endOf r w))
 
 unfoldable pub surveyedEnds : ℕ → ℕ → Row → Walk → List ℕ → List ℕ
-surveyedEnds len n r w seen = lookedAt len r w seen seen seen (putEnd n (endOf r w) seen)
+surveyedEnds len n r w seen = lookedAt len n r w seen seen seen (putEnd n (endOf r w) seen)
+
+-- the row's own tick: of the words in sight its columns name its inputs
+unfoldable pub tickBy : Float → List ℕ → Row → Tick
+tickBy time seen r = record {
+  time = time;
+  words = getD seen (r .first) 0 ∷ getD seen (r .second) 0 ∷ getD seen (r .third) 0 ∷ 0 ∷ 0 ∷ 0 ∷ 0 ∷ 0 ∷ [];
+}
 
 -- an emit: its refusal is noted, and its answer words come into sight
 unfoldable pub emittedRow : Float → ℕ → Row → Carried → Carried

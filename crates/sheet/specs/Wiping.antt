@@ -7,8 +7,8 @@ use Rattle.dynamics.specs.Machine.{Call, Seen, Tick}
 use Rattle.dynamics.specs.History.{wiped, retold, grownThrough}
 use Rattle.blocks.specs.Wiping.{wipeable, accountOf, SettingsF64}
 use Rattle.blocks.specs.declared.block.Block.{Block}
-use Rattle.sheet.specs.Rows.{Placed, placed}
-use Rattle.sheet.specs.Sheet.{tickNumber, tickLeft}
+use Rattle.sheet.specs.Rows.{placed}
+use Rattle.sheet.specs.Sheet.{tickNumber, Fed, fed, tickLeft}
 use Rattle.sheet.specs.Single.{At, Brought, ownTick, RowSeen, stretchOf, sheetAfter, received, seenOf, shownAs}
 use Rattle.sheet.specs.declared.row.Row.{Row}
 
@@ -18,16 +18,16 @@ pub record WipedRow : Type 0 where
   pub space : List ℕ
   pub region : List ℕ
   pub place : ℕ
-  pub row : Placed
+  pub row : Fed
   pub tick : Brought
   pub since : List Brought
-  -- the row stands there with its stretch, and its block is one that a tick can wipe
-  pub there : At place row (placed rows region)
+  -- the row stands there with its stretch and with what it received of the tick, and its block is one that a tick can wipe
+  pub there : At place row (fed (tick .tick) rows region)
   pub can-wipe : wipeable (row .row .block) ≡ true
   pub settings-f64 : SettingsF64 (row .row .block)
-  -- the sheet accepts the tick, which by the row's own inputs wipes its block
+  -- the sheet accepts the tick, which by what the row received wipes its block
   pub accepted : tickNumber (tick .tick .time) rows region space ≡ 0
-  pub wiping : accountOf (row .row .block) .wipesOn (ownTick tick (row .row)) (row .words) ≡ true
+  pub wiping : accountOf (row .row .block) .wipesOn (ownTick tick row) (row .words) ≡ true
 
 module _ (x : WipedRow) where
   abbrev pub blockOf : Block
@@ -35,13 +35,13 @@ module _ (x : WipedRow) where
 
   -- the row's own part of the wiping tick, and the calls that its block received since
   abbrev pub wipingTick : Tick
-  wipingTick = ownTick (x .tick) (x .row .row)
+  wipingTick = ownTick (x .tick) (x .row)
 
   abbrev after : List ℕ
   after = tickLeft (x .tick .tick) (x .rows) (x .region) (x .space)
 
   abbrev pub receivedSince : List Call
-  receivedSince = received (x .rows) (x .space) (x .row .row) after (x .since)
+  receivedSince = received (x .rows) (x .space) (x .place) after (x .since)
 
   -- what is seen of the row at each tick that the sheet accepted since, and the stretch that all of them leave
   abbrev pub seenSince : List RowSeen
@@ -55,7 +55,7 @@ module _ (x : WipedRow) where
   toldSince = retold (accountOf blockOf) (wiped wipingTick) receivedSince
 
   -- Its answer words, its stretch at each accepted tick and the one that is left are what the history says. So nothing of what
-  -- the region held before counts, and of the other rows nothing but which ticks the sheet accepted.
+  -- the region held before counts, and of the other rows nothing but which ticks the sheet accepted and the answers that it received.
   pub record RowRetold : Type 0 where
     pub shows : seenSince ≡ map (shownAs blockOf) toldSince
     pub leaves : stretchSince ≡ accountOf blockOf .words (grownThrough (accountOf blockOf) (wiped wipingTick) receivedSince)

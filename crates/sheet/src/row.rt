@@ -1,7 +1,7 @@
 // A sheet's rows, and what a call of a sheet answers.
 use blocks::Block;
 
-// A block, and the columns of its inputs: each names one of a tick's eight words.
+// A block, and the columns of its inputs: below 8 one names a word of the tick, from 8 on an answer word of a row further up.
 pub struct Row {
     pub block: Block,
     pub first: u64,

@@ -1,12 +1,13 @@
 // What a walk does on one row, on the row's own stretch of the region.
 use crate::row::Row;
-use crate::walk::COLUMNS;
 use crate::walk::ENDS;
+use crate::walk::INPUT_COLUMNS;
 use crate::walk::INPUT_WORDS;
 use crate::walk::MOST_ROWS;
 use crate::walk::OWN_WORDS;
 use crate::walk::Phase;
 use crate::walk::ROW_ANSWERS;
+use crate::walk::ROW_COLUMNS;
 use crate::walk::Walk;
 use crate::walk::lies;
 use crate::walk::moved_to;
@@ -25,21 +26,41 @@ use dynamics::word_at;
 ghost use mathlib.Core.Path.{_≡_};
 ghost use mathlib.Core.List.{[]};
 ghost use Rattle.dynamics.specs.Region.{Gives};
-ghost use Rattle.sheet.specs.Sheet.{inReach, tickBy};
-ghost use Rattle.sheet.specs.Walk.{surveyedRow, surveyedEnds, putTwo, putEnd, endIn, emittedRow, updatedRow, startedRow, carried, turned, Left};
+ghost use Rattle.sheet.specs.Sheet.{names, inReach};
+ghost use Rattle.sheet.specs.Walk.{larger, surveyedRow, surveyedEnds, tickBy, putTwo, putEnd, endIn, emittedRow, updatedRow, startedRow, carried, turned, Left};
 
-// Whether its columns name words of a tick.
-fn in_reach(row: Row) -> bool
-    ensures { λ r. ⌜ r ≡ inReach row ⌝ }
+// Whether a column of row i names a word of the tick, or an answer word of a row further up.
+fn names(i: usize, column: u64) -> bool
+    ensures { λ r. ⌜ r ≡ names i column ⌝ }
 {
-    (row.first < COLUMNS) & ((row.second < COLUMNS) & (row.third < COLUMNS))
+    if column < INPUT_COLUMNS {
+        return true;
+    }
+    (column - INPUT_COLUMNS) / ROW_COLUMNS < i as u64
+}
+
+// The larger of two columns.
+fn larger(a: u64, b: u64) -> u64
+    ensures { λ r. ⌜ r ≡ larger a b ⌝ }
+{
+    if a < b {
+        return b;
+    }
+    a
+}
+
+// Whether all its columns do: the largest tells.
+fn in_reach(i: usize, row: Row) -> bool
+    ensures { λ r. ⌜ r ≡ inReach i row ⌝ }
+{
+    names(i, larger(row.first, larger(row.second, row.third)))
 }
 
 // Tests 1 and 2, and that the row's words lie in a region of so many: test 3, but for words left over. Where they end is noted.
 fn survey_row(walk: Walk, i: usize, row: Row, words: usize, seen: &mut [u64]) -> Walk
     ensures { λ r. ⌜ Gives (surveyedRow words i row walk) (surveyedEnds words i row walk (now (seen .entry))) r (now (seen .exit)) ⌝ }
 {
-    if !in_reach(row) {
+    if !in_reach(i, row) {
         return refused(1, 0);
     }
     let block = row.block;

@@ -36,8 +36,10 @@ pub(crate) const INPUT_WORDS: usize = 8;
 
 pub(crate) const ROW_ANSWERS: usize = 2;
 
-// A column is below this: it names an input word.
-pub(crate) const COLUMNS: u64 = INPUT_WORDS as u64;
+// Columns below this name the input words; from here on they name the answer words, so many for each row.
+pub(crate) const INPUT_COLUMNS: u64 = INPUT_WORDS as u64;
+
+pub(crate) const ROW_COLUMNS: u64 = ROW_ANSWERS as u64;
 
 // A tick keeps words of its own: its inputs, the answers of as many rows as there may be, and from here on where each row's words end.
 pub(crate) const ENDS: usize = INPUT_WORDS + ROW_ANSWERS * MOST_ROWS;

@@ -26,6 +26,7 @@ pub const BLOCKS: [Kind; 7] = [
 pub struct Row {
     pub kind: Kind,
     pub settings: Vec<u64>,
+    /// Each names a word of the tick, or from 8 on an answer word of a row further up.
     pub columns: [u64; 3],
 }
 

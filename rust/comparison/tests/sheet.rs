@@ -1,9 +1,9 @@
-//! Document 01's bench sheet, on the model: refusals, answers, warning, and that a sheet is its blocks.
+//! Document 01's bench sheet, on the model: refusals, answers, warning, rows that feed rows, and that a sheet is its blocks.
 use comparison::inputs::{self, Rng, bench_controller};
 use comparison::model::{self, leaves::UNSET};
 use comparison::sheet::{BLOCKS, Row, SheetAnswer, words_of};
 use comparison::sheets::cases::cases;
-use comparison::sheets::{Left, Sheet};
+use comparison::sheets::{Left, Sheet, worked};
 use comparison::{Kind, sheet};
 
 const NAN: u64 = 0x7FF8_0000_0000_0000;
@@ -37,7 +37,7 @@ fn ticked(sheet: &mut Sheet, time: f64, words: [u64; 8]) -> Left {
 #[test]
 fn refusals_and_their_rows() {
     let cases = cases();
-    assert!(cases.len() > 800);
+    assert!(cases.len() > 8000);
     for case in &cases {
         let left = case.call.made(&model::sheet::CALLS);
         let got = (left.answer.refusal, left.answer.row as usize);
@@ -120,6 +120,12 @@ fn one_column_read_by_several_rows() {
     (words[6], words[7]) = (0xFFF4_0000_0000_1234, 0);
     let left = ticked(&mut sheet, 0.0, words);
     assert_eq!(left.answers, [NAN, 0, 1, 0, 0, 0]);
+}
+
+/// Rows that feed rows, worked out by hand.
+#[test]
+fn rows_that_feed_rows() {
+    worked::run(&model::sheet::CALLS);
 }
 
 /// Points that come too close warn once; the sheet warns if any row does, wherever it stands.

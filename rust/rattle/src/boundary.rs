@@ -137,7 +137,14 @@ pub fn sheet_start(rows: &[u64], w: &mut [u64]) -> SheetWords {
     unsafe { oven_sheet_start(rows.as_ptr(), rows.len(), w.as_mut_ptr(), w.len()) }
 }
 
-/// A tick of all rows with eight input words, and two words of answers for each row.
+/// The column by which a row takes a word that a row further up answers in the same tick: its output, word 0, or its second, 1.
+#[inline]
+#[must_use]
+pub const fn answer_column(row: u64, word: u64) -> u64 {
+    8 + 2 * row + word
+}
+
+/// A tick of all rows with eight input words, and two words of answers for each row, which the rows further down may read.
 #[inline]
 #[must_use]
 pub fn sheet_tick(

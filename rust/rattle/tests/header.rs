@@ -5,7 +5,7 @@ use comparison::inputs::{Rng, bench_controller};
 use comparison::sheet::{ROW_WORDS, Row, SETTINGS};
 use comparison::sheets::{Fault, Sheet, plant};
 use comparison::{Kind, TICK_WORDS};
-use rattle::boundary::ANSWER_WORDS;
+use rattle::boundary::{ANSWER_WORDS, answer_column};
 use rattle::{BLOCKS, CALLS, SHEETS};
 
 /// Each name that the header gives a number, by a define or in an enum.
@@ -88,6 +88,29 @@ fn rows() {
     assert_eq!(places, [1, 5, 6, 7]);
     assert_eq!(words[number("SETTINGS")..], settings);
     assert_eq!(words.len(), number("WORDS"));
+}
+
+/// How many rows and which columns the sheet takes: one row more gives 1, and so does a row's own word, of which the one before is taken.
+#[test]
+fn columns() {
+    let numbers = numbers();
+    let number = |name: &str| numbers[&format!("OVEN_{name}")];
+    let [most, inputs, each] = ["SHEET_ROWS", "SHEET_INPUTS", "ROW_ANSWERS"].map(number);
+    let [output, second] = ["OUTPUT", "SECOND_OUTPUT"].map(number);
+    let refusal = |rows: u64, column: u64| {
+        let mut sheet = vec![Row::new(Kind::TimerAccumulating, &[0], [0; 3]); rows as usize];
+        sheet.last_mut().expect("a row").columns = [column; 3];
+        let call = Sheet::new(sheet).tick(0, [0; 8]);
+        assert_eq!(call.answers.len() as u64, each * rows);
+        call.made(&SHEETS).answer.refusal
+    };
+    assert_eq!([most, most + 1].map(|rows| refusal(rows, 0)), [0, 1]);
+    for row in 0..most {
+        let own = [output, second].map(|word| answer_column(row, word));
+        assert_eq!(own, [output, second].map(|word| inputs + each * row + word));
+        assert_eq!(own.map(|column| refusal(row + 1, column)), [1, 1]);
+        assert_eq!(refusal(row + 1, own[0] - 1), 0);
+    }
 }
 
 #[test]

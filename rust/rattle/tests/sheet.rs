@@ -1,8 +1,9 @@
-//! The proved sheet: which numbers and rows it gives, that it is document 01's, and that it is its blocks run singly.
+//! The proved sheet: which numbers and rows it gives, that it is document 01's with rows that feed rows, and that it is its blocks
+//! run singly.
 use comparison::inputs::{self, Rng};
 use comparison::sheet::{BLOCKS, Row};
 use comparison::sheets::cases::cases;
-use comparison::sheets::{Sheet, compare, expected_classes};
+use comparison::sheets::{Sheet, compare, expected_classes, worked};
 use comparison::{Kind, model};
 use rattle::{CALLS, SHEETS, guarded};
 
@@ -19,6 +20,12 @@ fn refusals_and_their_rows() {
             assert!(left == case.call.refused(case.refusal, case.row));
         }
     }
+}
+
+/// Rows that feed rows, worked out by hand.
+#[test]
+fn rows_that_feed_rows() {
+    worked::run(&SHEETS);
 }
 
 /// A short look: the program `differ_sheet` compares many more.

@@ -1,7 +1,10 @@
 //! What docs/TIMERS.md, docs/CONTROLLER.md, docs/MOVING-AVERAGE.md and docs/SHEET.md show is what the proved library gives.
 use comparison::Kind;
+use comparison::inputs::bench_controller;
+use comparison::sheet::{Row, words_of};
+use rattle::boundary::answer_column;
 use rattle::shown::EXAMPLES;
-use rattle::{CALLS, bench_rows, run, shown_sheet};
+use rattle::{CALLS, bench_rows, guarded, run, shown_sheet};
 
 fn page(name: &str) -> String {
     let folder = concat!(env!("CARGO_MANIFEST_DIR"), "/../../docs/");
@@ -26,6 +29,31 @@ fn the_controllers_page_shows_the_bench_rows() {
 fn the_sheets_page_shows_the_run() {
     let table = shown_sheet::table();
     assert!(page("SHEET.md").contains(&table), "{table}");
+}
+
+/// A controller at its limit, -0.0; a delay that reads this answer passes true on at once; to a controller true is 5e-324.
+#[test]
+fn the_sheets_page_says_how_words_are_handed_on() {
+    let page = page("SHEET.md");
+    assert!(page.contains("-0.0 is true") && page.contains("5e-324"));
+    let (one, mut limited) = (1f64.to_bits(), bench_controller(0, 1.0, 0.0));
+    limited[5] = (-0.0f64).to_bits();
+    let rows = words_of(&[
+        Row::new(Kind::Pid, &limited, [0, 1, 0]),
+        Row::new(Kind::TrueDelay, &[one, 0], [answer_column(0, 0), 0, 0]),
+        Row::new(
+            Kind::Pid,
+            &bench_controller(0, 1.0, 0.0),
+            [answer_column(1, 0), 1, 0],
+        ),
+    ]);
+    let (mut region, mut answers) = ([0; 4], [9; 6]);
+    let words = [one, 0, 0, 0, 0, 0, 0, 0];
+    assert_eq!(guarded::sheet_start(&rows, &mut region).refusal, 0);
+    let said = guarded::sheet_tick(&rows, 0, &words, &mut region, &mut answers);
+    assert_eq!(said.refusal, 0);
+    let due = [(-0.0f64).to_bits(), 0, 1, 0, 5e-324f64.to_bits(), 0];
+    assert_eq!(answers, due);
 }
 
 /// Delta, and time and input of each tick: row P8 and one tick more, then ticks that come too close.

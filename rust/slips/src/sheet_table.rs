@@ -7,7 +7,7 @@ const fn sheet(name: &'static str, text: &'static str, slipped: &'static str) ->
 }
 
 /// All slips of the sheet.
-pub const SHEET_SLIPS: [Slip; 35] = [
+pub const SHEET_SLIPS: [Slip; 57] = [
     sheet(
         "row numbers from 1",
         "SheetAnswer::refused(6, n)",
@@ -31,7 +31,7 @@ pub const SHEET_SLIPS: [Slip; 35] = [
     sheet(
         "emits after the updates",
         "        let (s, words) = (&row.settings, &region[stretch(rows, n)]);\n",
-        "        let (s, mut words) = (&row.settings, region[stretch(rows, n)].to_vec());\n        super::update(row.kind, s, tick.time, &inputs(row, tick), &mut words);\n        let words = &words;\n",
+        "        let (s, mut words) = (&row.settings, region[stretch(rows, n)].to_vec());\n        super::update(row.kind, s, tick.time, &inputs(row, tick, answers), &mut words);\n        let words = &words;\n",
     ),
     sheet(
         "the warning of the last row alone",
@@ -148,12 +148,12 @@ pub const SHEET_SLIPS: [Slip; 35] = [
     sheet(
         "a refused tick updates the rows above the one at fault",
         "    let refused = tick_refusal(rows, tick, region, answers);\n    if refused.refusal != 0 {",
-        "    let refused = tick_refusal(rows, tick, region, answers);\n    if [6, 7].contains(&refused.refusal) {\n        for n in 0..refused.row as usize {\n            let (row, words) = (&rows[n], &mut region[stretch(rows, n)]);\n            super::update(row.kind, &row.settings, tick.time, &inputs(row, tick), words);\n        }\n    }\n    if refused.refusal != 0 {",
+        "    let refused = tick_refusal(rows, tick, region, answers);\n    if [6, 7].contains(&refused.refusal) {\n        for n in 0..refused.row as usize {\n            let (row, words) = (&rows[n], &mut region[stretch(rows, n)]);\n            super::update(row.kind, &row.settings, tick.time, &inputs(row, tick, answers), words);\n        }\n    }\n    if refused.refusal != 0 {",
     ),
     sheet(
         "a refused tick answers for the rows above the one at fault",
         "    let refused = tick_refusal(rows, tick, region, answers);\n    if refused.refusal != 0 {",
-        "    let refused = tick_refusal(rows, tick, region, answers);\n    if [6, 7].contains(&refused.refusal) {\n        for n in 0..refused.row as usize {\n            let (row, words) = (&rows[n], &region[stretch(rows, n)]);\n            let emitted = super::emit(row.kind, &row.settings, tick.time, &inputs(row, tick), words);\n            answers[2 * n..2 * n + 2].copy_from_slice(&outputs(row.kind, &emitted));\n        }\n    }\n    if refused.refusal != 0 {",
+        "    let refused = tick_refusal(rows, tick, region, answers);\n    if [6, 7].contains(&refused.refusal) {\n        for n in 0..refused.row as usize {\n            let (row, words) = (&rows[n], &region[stretch(rows, n)]);\n            let emitted = super::emit(row.kind, &row.settings, tick.time, &inputs(row, tick, answers), words);\n            answers[2 * n..2 * n + 2].copy_from_slice(&outputs(row.kind, &emitted));\n        }\n    }\n    if refused.refusal != 0 {",
     ),
     sheet(
         "a region two words or more too long taken",
@@ -174,5 +174,134 @@ pub const SHEET_SLIPS: [Slip; 35] = [
         "an answer space's length compared by its low byte",
         "answers.len() != 2 * rows.len()",
         "answers.len() as u8 != (2 * rows.len()) as u8",
+    ),
+    // rows that feed rows: which columns are taken
+    sheet(
+        "a row may read its own words",
+        "(column - 8) / 2 >= n as u64",
+        "(column - 8) / 2 > n as u64",
+    ),
+    sheet(
+        "a row may read its own first word",
+        "(column - 8) / 2 >= n as u64",
+        "column - 8 > 2 * n as u64",
+    ),
+    sheet(
+        "a row may read a later row's words as they were lent",
+        "column_fault(n, *c)",
+        "column_fault(rows.len(), *c)",
+    ),
+    sheet(
+        "a row may not read the row above",
+        "(column - 8) / 2 >= n as u64",
+        "(column - 8) / 2 + 1 >= n as u64",
+    ),
+    sheet(
+        "a row may not read the second word of the row above",
+        "(column - 8) / 2 >= n as u64",
+        "column - 8 + 1 >= 2 * n as u64",
+    ),
+    sheet(
+        "no row may read another",
+        "column >= 8 && (column - 8) / 2 >= n as u64",
+        "column >= 8",
+    ),
+    sheet(
+        "the first column alone tested",
+        "rows[n].columns.iter().any(",
+        "rows[n].columns[..1].iter().any(",
+    ),
+    sheet(
+        "a row beside 1",
+        "SheetAnswer::refused(1, 0)",
+        "SheetAnswer::refused(1, topmost(rows, columns_fault).unwrap_or(0))",
+    ),
+    sheet(
+        "a start tests no columns",
+        "    let refused = start_refusal(rows, region);\n",
+        "let all: Vec<Row> = rows.iter().map(|row| Row::new(row.kind, &row.settings, [0; 3])).collect();\n\
+         let refused = start_refusal(&all, region);\n",
+    ),
+    // which word is handed on
+    sheet(
+        "a feeding column one word too far",
+        "answers[column as usize - 8]",
+        "answers[column as usize - 7]",
+    ),
+    sheet(
+        "a feeding column counts rows",
+        "answers[column as usize - 8]",
+        "answers[2 * (column as usize - 8) % answers.len()]",
+    ),
+    sheet(
+        "the second word of a row handed on as its first",
+        "answers[column as usize - 8]",
+        "answers[(column as usize - 8) & !1]",
+    ),
+    sheet(
+        "a word handed on as it was lent",
+        "    let mut seen = vec![];\n",
+        "let lent = answers.to_vec();\n\
+         let inputs = |row: &Row, tick: &Tick, _: &[u64]| inputs(row, tick, &lent);\n\
+         let mut seen = vec![];\n",
+    ),
+    sheet(
+        "a row reads what the rows above answer after their updates",
+        "    let mut seen = vec![];\n",
+        "let mut after = vec![];\n\
+         for (n, row) in rows.iter().enumerate() {\n\
+         let (s, mut words) = (&row.settings, region[stretch(rows, n)].to_vec());\n\
+         let received = inputs(row, tick, &after);\n\
+         super::update(row.kind, s, tick.time, &received, &mut words);\n\
+         let emitted = super::emit(row.kind, s, tick.time, &received, &words);\n\
+         after.extend(outputs(row.kind, &emitted));\n\
+         }\n\
+         let inputs = |row: &Row, tick: &Tick, _: &[u64]| inputs(row, tick, &after);\n\
+         let mut seen = vec![];\n",
+    ),
+    // as what it is handed on
+    sheet(
+        "a fed true handed on as 1.0",
+        "_ => answers[column as usize - 8],",
+        "_ if answers[column as usize - 8] == 1 => 1f64.to_bits(),\n\
+         _ => answers[column as usize - 8],",
+    ),
+    sheet(
+        "a fed word handed on as a boolean",
+        "_ => answers[column as usize - 8],",
+        "_ => u64::from(answers[column as usize - 8] != 0),",
+    ),
+    sheet(
+        "a fed -0.0 handed on as 0.0",
+        "_ => answers[column as usize - 8],",
+        "_ if answers[column as usize - 8] == 1 << 63 => 0,\n        _ => answers[column as usize - 8],",
+    ),
+    sheet(
+        "a fed NaN handed on as 0.0",
+        "_ => answers[column as usize - 8],",
+        "_ if f64::from_bits(answers[column as usize - 8]).is_nan() => 0,\n\
+         _ => answers[column as usize - 8],",
+    ),
+    sheet(
+        "a fed subnormal handed on as 0.0",
+        "_ => answers[column as usize - 8],",
+        "_ if f64::from_bits(answers[column as usize - 8]).is_subnormal() => 0,\n\
+         _ => answers[column as usize - 8],",
+    ),
+    // the updates
+    sheet(
+        "an update on the answers as they were lent",
+        "    let mut seen = vec![];\n",
+        "    let mut seen: Vec<_> = rows.iter().map(|row| inputs(row, tick, answers)).collect();\n",
+    ),
+    sheet(
+        "an update on zeros where its emit was fed",
+        "&seen[n], words)",
+        "&row.columns.map(|column| tick.words.get(column as usize).map_or(0, |word| *word)), words)",
+    ),
+    sheet(
+        "an update on the inputs of the row above",
+        "&seen[n], words)",
+        "&seen[n.saturating_sub(1)], words)",
     ),
 ];

@@ -6,6 +6,8 @@ use crate::sheet::{Row, Tick};
 pub struct SheetCase {
     pub name: &'static str,
     rows: Vec<Case>,
+    /// Whether every row from the second on reads the row above: its first input is that row's first answer word.
+    pub feeds: bool,
 }
 
 /// The rows of a sheet by the names of their cases.
@@ -17,6 +19,15 @@ fn sheet(name: &'static str, turns: &[&str]) -> SheetCase {
     SheetCase {
         name,
         rows: turns.iter().cycle().take(16).map(named).collect(),
+        feeds: false,
+    }
+}
+
+/// The same, with rows that feed rows.
+fn fed(name: &'static str, turns: &[&str]) -> SheetCase {
+    SheetCase {
+        feeds: true,
+        ..sheet(name, turns)
     }
 }
 
@@ -34,11 +45,12 @@ pub fn cases() -> Vec<SheetCase> {
         sheet("sheet mix", &mix),
         sheet("sheet 16 PI", &["Pid PI"]),
         sheet("sheet all blocks", &[&mix[..], &others].concat()),
+        fed("sheet mix, fed", &mix),
     ]
 }
 
 impl SheetCase {
-    /// The rows: of the eight words the first four are reals, and the others booleans.
+    /// The rows: of a tick's eight words the first four are reals, and the others booleans.
     #[must_use]
     pub fn rows(&self) -> Vec<Row> {
         let row = |(n, case): (usize, &Case)| {
@@ -50,6 +62,9 @@ impl SheetCase {
                 } else {
                     4 + of_its_sort
                 };
+            }
+            if self.feeds && n > 0 {
+                columns[0] = 8 + 2 * (n as u64 - 1);
             }
             Row::new(case.kind, &case.settings, columns)
         };
@@ -113,6 +128,18 @@ mod tests {
                 let said = model::sheet::tick(&rows, &tick, &mut region, &mut answers);
                 assert_eq!((said.refusal, said.warning), (0, false), "{}", case.name);
             }
+        }
+    }
+
+    #[test]
+    fn each_row_of_a_fed_sheet_reads_the_row_above() {
+        let fed: Vec<_> = cases().into_iter().filter(|case| case.feeds).collect();
+        assert!(!fed.is_empty());
+        for rows in fed.iter().map(SheetCase::rows) {
+            let feeding = |row: &Row| row.columns.into_iter().filter(|c| *c >= 8).collect();
+            let columns: Vec<Vec<u64>> = rows.iter().map(feeding).collect();
+            assert_eq!((columns.len(), columns[0].len()), (16, 0));
+            assert!((1..16).all(|n| columns[n] == [8 + 2 * (n as u64 - 1)]));
         }
     }
 

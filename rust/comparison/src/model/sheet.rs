@@ -1,4 +1,4 @@
-//! Document 01's bench sheet, over the model's blocks.
+//! Document 01's bench sheet, with document 02's rows that feed rows, over the model's blocks.
 use std::ops::Range;
 
 use super::leaves::is_finite;
@@ -30,21 +30,24 @@ pub fn start(rows: &[Row], region: &mut [u64]) -> SheetAnswer {
     SheetAnswer::default()
 }
 
-/// All rows emit, then all update.
+/// The rows emit, top to bottom; then all update, each with the inputs that its emit saw.
 pub fn tick(rows: &[Row], tick: &Tick, region: &mut [u64], answers: &mut [u64]) -> SheetAnswer {
     let refused = tick_refusal(rows, tick, region, answers);
     if refused.refusal != 0 {
         return refused;
     }
+    let mut seen = vec![];
     for (n, row) in rows.iter().enumerate() {
         let (s, words) = (&row.settings, &region[stretch(rows, n)]);
-        let emitted = super::emit(row.kind, s, tick.time, &inputs(row, tick), words);
+        let received = inputs(row, tick, answers);
+        let emitted = super::emit(row.kind, s, tick.time, &received, words);
         answers[2 * n..2 * n + 2].copy_from_slice(&outputs(row.kind, &emitted));
+        seen.push(received);
     }
     let mut warning = false;
     for (n, row) in rows.iter().enumerate() {
         let (s, words) = (&row.settings, &mut region[stretch(rows, n)]);
-        let updated = super::update(row.kind, s, tick.time, &inputs(row, tick), words);
+        let updated = super::update(row.kind, s, tick.time, &seen[n], words);
         warning |= updated.warning;
     }
     SheetAnswer {
@@ -63,9 +66,18 @@ fn row_length(row: &Row) -> usize {
     length(row.kind, &row.settings)
 }
 
-/// A column names an input word.
-fn inputs(row: &Row, tick: &Tick) -> [u64; 3] {
-    row.columns.map(|column| tick.words[column as usize])
+/// A column below 8 names a word of the tick. One of 8 or more names answer word column - 8 of this same tick, which a row further
+/// up has written. The word is handed on as its bits.
+fn inputs(row: &Row, tick: &Tick, answers: &[u64]) -> [u64; 3] {
+    row.columns.map(|column| match column {
+        0..8 => tick.words[column as usize],
+        _ => answers[column as usize - 8],
+    })
+}
+
+/// Whether a column of row n names its own word, a later row's, or none. Answer words belong to the rows by twos.
+fn column_fault(n: usize, column: u64) -> bool {
+    column >= 8 && (column - 8) / 2 >= n as u64
 }
 
 /// The real or boolean output, then the second output or 0.
@@ -86,7 +98,7 @@ fn topmost(rows: &[Row], fault: impl Fn(usize) -> bool) -> Option<usize> {
 
 /// Tests 1 to 3, each over all rows before the next.
 fn start_refusal(rows: &[Row], region: &[u64]) -> SheetAnswer {
-    let columns_fault = |n: usize| rows[n].columns.iter().any(|column| *column > 7);
+    let columns_fault = |n: usize| rows[n].columns.iter().any(|c| column_fault(n, *c));
     let settings_fault = |n: usize| setting_fault(rows[n].kind, &rows[n].settings);
     if rows.is_empty() || rows.len() > 16 || topmost(rows, columns_fault).is_some() {
         SheetAnswer::refused(1, 0)

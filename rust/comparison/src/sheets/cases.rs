@@ -1,9 +1,10 @@
-//! Calls with the number and the row that document 01 gives for them: how many rows, which columns, and planted faults.
+//! Calls with the number and the row that documents 01 and 02 give for them: how many rows, which columns, and planted faults.
+use crate::Kind;
 use crate::inputs::{Rng, accepted_settings};
 use crate::model;
 use crate::sheet::{BLOCKS, NO_BLOCK, ROW_WORDS, Row, SETTINGS};
 
-use super::{Call, Fault, Sheet, due, plant};
+use super::{Call, Fault, Sheet, bad_columns, due, plant};
 
 /// A call, and what is due: the number and the row.
 pub struct Case {
@@ -13,18 +14,23 @@ pub struct Case {
     pub row: usize,
 }
 
-/// A tick that is accepted, at time 2, of so many rows that were started and ticked at 1. The blocks take turns, from this one on.
-fn accepted(r: &mut Rng, count: usize, from: usize) -> Call {
-    let row = |n| {
-        let kind = BLOCKS[(from + n) % BLOCKS.len()];
+/// So many blocks that take turns, from this one on.
+fn turns(blocks: &[Kind], from: usize, count: usize) -> Vec<Kind> {
+    let turns = blocks.iter().copied().cycle();
+    turns.skip(from).take(count).collect()
+}
+
+/// A tick that is accepted, at time 2, of rows with these blocks that were started and ticked at 1.
+fn accepted(r: &mut Rng, kinds: &[Kind]) -> Call {
+    let row = |(n, &kind): (usize, &Kind)| {
         let mut settings = accepted_settings(r, kind);
         if kind.is_controller() {
             settings[0] = 1 + r.below(3); // P keeps no previous time
         }
         Row::new(kind, &settings, [n as u64 % 8, 7, 0])
     };
-    let mut sheet = Sheet::new((0..count).map(row).collect());
-    if (1..=16).contains(&count) {
+    let mut sheet = Sheet::new(kinds.iter().enumerate().map(row).collect());
+    if (1..=16).contains(&kinds.len()) {
         sheet.region = sheet.start().made(&model::sheet::CALLS).region;
         let ticked = sheet.tick(1f64.to_bits(), [1; 8]);
         sheet.region = ticked.made(&model::sheet::CALLS).region;
@@ -64,7 +70,8 @@ fn counts(r: &mut Rng) -> Vec<Case> {
     let case = |count| {
         let number = u64::from(!(1..=16).contains(&count));
         let name = format!("{count} rows");
-        both(&name, accepted(r, count, 0), &of_sheet(number))
+        let call = accepted(r, &turns(&BLOCKS, 0, count));
+        both(&name, call, &of_sheet(number))
     };
     [0, 1, 2, 15, 16, 17, 18, 32]
         .into_iter()
@@ -72,18 +79,49 @@ fn counts(r: &mut Rng) -> Vec<Case> {
         .collect()
 }
 
-/// 7 is a column and 8 is none, in each of the three places, whether the block reads it or not.
-fn columns(r: &mut Rng) -> Vec<Case> {
+/// Each of the three columns of each row, whether its block reads it or not: the last words that it may name, and what it may not.
+fn columns_of(r: &mut Rng, kinds: &[Kind]) -> Vec<Case> {
     let mut cases = vec![];
-    for (from, row) in (0..BLOCKS.len()).flat_map(|from| [(from, 0), (from, 2)]) {
-        for (place, column) in
-            (1..=3).flat_map(|place| [7, 8, 1 << 32, u64::MAX].map(|c| (place, c)))
-        {
-            let mut call = accepted(r, 3, from);
+    for (row, place) in (0..kinds.len()).flat_map(|row| [1, 2, 3].map(|place| (row, place))) {
+        let last = 8 + 2 * row as u64 - 1;
+        let good = [7, last].map(|column| (column, 0));
+        let bad = bad_columns(row, kinds.len()).map(|column| (column, 1));
+        for (column, number) in good.into_iter().chain(bad) {
+            let mut call = accepted(r, kinds);
             call.rows[row * ROW_WORDS + place] = column;
-            let block = call.rows[row * ROW_WORDS];
-            let name = format!("column {column} in place {place} of row {row}, block {block}");
-            cases.extend(both(&name, call, &of_sheet(u64::from(column > 7))));
+            let kind = kinds[row];
+            let name = format!("column {column} in place {place} of row {row}, {kind:?}");
+            cases.extend(both(&name, call, &of_sheet(number)));
+        }
+    }
+    cases
+}
+
+/// Every block in each of three rows.
+fn columns(r: &mut Rng) -> Vec<Case> {
+    let of = |from| columns_of(r, &turns(&BLOCKS, from, 3));
+    (0..BLOCKS.len()).flat_map(of).collect()
+}
+
+/// Every block in each of sixteen rows, but the moving average, which has thousands of words.
+fn columns_of_sixteen(r: &mut Rng) -> Vec<Case> {
+    let mut short = BLOCKS.to_vec();
+    short.retain(|kind| *kind != Kind::MovingAverage);
+    let of = |from| columns_of(r, &turns(&short, from, 16));
+    (0..short.len()).flat_map(of).collect()
+}
+
+/// A row's own word in one of its columns, beside a fault of each other number in each row: 13 alone comes before its 1.
+fn columns_and_faults(r: &mut Rng) -> Vec<Case> {
+    let mut cases = vec![];
+    for number in [2, 3, 4, 5, 6, 7, NO_BLOCK] {
+        for (row, at) in (0..3).flat_map(|row| [0, 1, 2].map(|at| (row, at))) {
+            let mut call = accepted(r, &turns(&BLOCKS, row + at, 3));
+            call.rows[at * ROW_WORDS + 1 + row] = 8 + 2 * at as u64;
+            let mut faults = plant(r, &mut call, &[Fault { number, row }]);
+            faults.push(Fault { number: 1, row: at });
+            assert_eq!(faults.len(), 2);
+            cases.extend(both(&format!("own word, {faults:?}"), call, &faults));
         }
     }
     cases
@@ -93,7 +131,7 @@ fn columns(r: &mut Rng) -> Vec<Case> {
 fn names(r: &mut Rng) -> Vec<Case> {
     let mut cases = vec![];
     let mut refused = |name: String, change: &dyn Fn(&mut Vec<u64>)| {
-        let mut call = accepted(r, 2, 0); // the two controllers
+        let mut call = accepted(r, &[Kind::Pid, Kind::PidWithReset]);
         change(&mut call.rows);
         cases.extend(both(&name, call, &of_sheet(NO_BLOCK)));
     };
@@ -129,7 +167,7 @@ fn faults(r: &mut Rng) -> Vec<Case> {
     let mut cases = vec![];
     for (n, first) in all.iter().enumerate() {
         for second in &all[n..] {
-            let mut call = accepted(r, 3, n);
+            let mut call = accepted(r, &turns(&BLOCKS, n, 3));
             let planted = plant(r, &mut call, &[*first, *second]);
             assert!(
                 [first, second]
@@ -147,8 +185,7 @@ fn faults(r: &mut Rng) -> Vec<Case> {
 #[must_use]
 pub fn cases() -> Vec<Case> {
     let mut r = Rng::new(11, 0);
-    [counts, columns, names, faults]
-        .into_iter()
-        .flat_map(|cases| cases(&mut r))
-        .collect()
+    let of_columns = [columns, columns_of_sixteen, columns_and_faults];
+    let all = [counts, names, faults].into_iter().chain(of_columns);
+    all.flat_map(|cases| cases(&mut r)).collect()
 }

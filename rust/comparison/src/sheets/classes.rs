@@ -4,6 +4,7 @@ use crate::sheet::{BLOCKS, NO_BLOCK, Row, rows_of};
 use crate::tally::{Word, met};
 use crate::{Kind, model};
 
+use super::feeding::{self, As, Bad, Fed};
 use super::{Call, Fault, Left};
 
 /// A sort of call or answer.
@@ -28,8 +29,21 @@ pub enum SheetClass {
     Passed,
     NoRows,
     TooManyRows,
-    /// Columns above 7, but none that a block reads.
+    /// Columns that name nothing, but none that a block reads.
     UnreadColumn,
+    /// One column that names nothing, in a start and in a tick, and nothing else that 1 is for.
+    StartColumn(Bad),
+    TickColumn(Bad),
+    /// An accepted tick of rows that do not feed each other.
+    Unfed,
+    /// An accepted tick in which a chain of rows, each of which reads the one before it in the chain, has so many links.
+    Chain(usize),
+    /// A column with the last answer word that row n may read.
+    Last(usize),
+    /// A fed column in a place that its block does not read.
+    FedUnread,
+    /// A fed word, and as what it is read.
+    Fed(Fed, As),
     /// A boolean setting of a row in an accepted tick.
     BooleanSetting(Word),
     /// A region or an answer space refused for its length: how far it is off.
@@ -58,6 +72,15 @@ pub fn expected_classes() -> Vec<SheetClass> {
         Passed,
     ];
     wanted.extend([NoRows, TooManyRows, UnreadColumn, Before(2), Before(6)]);
+    wanted.extend([Unfed, FedUnread]);
+    wanted.extend((1..=15).flat_map(|n| [Chain(n), Last(n)]));
+    wanted.extend(
+        Bad::ALL
+            .into_iter()
+            .flat_map(|bad| [StartColumn(bad), TickColumn(bad)]),
+    );
+    let read = |fed| [As::Real, As::Boolean].map(|read| Fed(fed, read));
+    wanted.extend(Fed::ALL.into_iter().flat_map(read));
     wanted.extend([1, 2, 3, NO_BLOCK].map(StartRefused));
     wanted.extend([1, 2, 3, 4, 5, 6, 7, NO_BLOCK].map(TickRefused));
     wanted.extend((1..=16).map(Rows));
@@ -79,6 +102,14 @@ pub(super) fn classes(call: &Call, faults: &[Fault], due: &Left) -> Vec<SheetCla
         (n, None) => vec![StartRefused(n)],
         (n, Some(_)) => vec![TickRefused(n)],
     };
+    if let (1, Some(bad)) = (due.answer.refusal, feeding::only_bad(&rows)) {
+        let column = if call.tick.is_some() {
+            TickColumn
+        } else {
+            StartColumn
+        };
+        classes.push(column(bad));
+    }
     classes.extend(refused(&rows, faults, due));
     classes.extend(lengths(&rows, call, due.answer.refusal));
     classes
@@ -113,6 +144,7 @@ fn accepted(rows: &[Row], due: &Left) -> Vec<SheetClass> {
         .count()
         > 0;
     let mut classes = vec![Ticked, Rows(rows.len())];
+    classes.extend(feeding::fed(rows, &due.answers));
     classes.extend(rows.iter().map(|row| Block(row.kind)));
     let booleans = rows
         .iter()
@@ -133,10 +165,9 @@ fn accepted(rows: &[Row], due: &Left) -> Vec<SheetClass> {
 
 fn refused(rows: &[Row], faults: &[Fault], due: &Left) -> Vec<SheetClass> {
     let (number, row) = (due.answer.refusal, due.answer.row as usize);
-    let read = |row: &Row| {
-        row.columns[..row.kind.inputs().len()]
-            .iter()
-            .any(|c| *c > 7)
+    let read = |(n, row): (usize, &Row)| {
+        let mut columns = row.columns[..row.kind.inputs().len()].iter();
+        columns.any(|c| Bad::of(n, rows.len(), *c).is_some())
     };
     let fits = (1..=16).contains(&rows.len());
     let own = faults.iter().filter(|fault| fault.number == number);
@@ -149,7 +180,10 @@ fn refused(rows: &[Row], faults: &[Fault], due: &Left) -> Vec<SheetClass> {
     let classes = met([
         (NoRows, number == 1 && rows.is_empty()),
         (TooManyRows, number == 1 && rows.len() > 16),
-        (UnreadColumn, number == 1 && fits && !rows.iter().any(read)),
+        (
+            UnreadColumn,
+            number == 1 && fits && !rows.iter().enumerate().any(read),
+        ),
         (Lower(number), of_rows && row > 0),
         (Several(number), of_rows && own.len() > 1),
         (Before(number), of_rows && faults.iter().any(above)),

@@ -86,12 +86,12 @@ fn any_count(r: &mut Rng) -> usize {
     1 + more + r.below(16) as usize
 }
 
-/// One to three faults of any numbers, or of those that have rows.
+/// One to three faults of any numbers, of those that have rows, or of the sheet's form.
 fn any_faults(r: &mut Rng, rows: usize) -> Vec<Fault> {
-    let numbers = if r.one_in(2) {
-        &[1, 2, 3, 4, 5, 6, 7, NO_BLOCK][..]
-    } else {
-        &[2, 6, 6, 7, 7]
+    let numbers = match r.below(8) {
+        0 => &[1][..],
+        1..=4 => &[1, 2, 3, 4, 5, 6, 7, NO_BLOCK],
+        _ => &[2, 6, 6, 7, 7],
     };
     let count = 1 + r.below(3);
     let fault = |_| Fault {

@@ -60,9 +60,31 @@ fn put(r: &mut Rng, call: &mut Call, fault: Fault) -> bool {
     true
 }
 
-/// A column above 7 in one of the three places, or no rows, or more than 16.
+/// Columns that name nothing that row n of so many may read: its own two words, then words of the next row and the last, then the
+/// first behind these rows' and behind sixteen rows', then far ones.
+#[must_use]
+pub fn bad_columns(n: usize, rows: usize) -> [u64; 10] {
+    let (own, end) = (8 + 2 * n as u64, 8 + 2 * rows as u64);
+    let [next, last, past] = [own + 2, end - 1, end];
+    [
+        own,
+        own + 1,
+        next,
+        next + 1,
+        last,
+        past,
+        40,
+        1 << 32,
+        1 << 63,
+        u64::MAX,
+    ]
+}
+
+/// A column that names nothing in one of the three places, or no rows, or more than 16.
 fn spoil_form(r: &mut Rng, rows: &mut Vec<u64>, row: usize) {
     let place = row * ROW_WORDS + 1 + r.below(3) as usize;
+    let columns = bad_columns(row, rows.len() / ROW_WORDS);
+    let sorts = [&columns[..2], &columns[2..5], &columns[5..7], &columns[7..]];
     match r.below(8) {
         0 => rows.clear(),
         1 => {
@@ -74,7 +96,10 @@ fn spoil_form(r: &mut Rng, rows: &mut Vec<u64>, row: usize) {
                 .take(count * ROW_WORDS)
                 .collect();
         }
-        _ if place < rows.len() => rows[place] = r.pick(&[8, 9, 1 << 32, u64::MAX]),
+        _ if place < rows.len() => {
+            let sort = r.pick(&sorts);
+            rows[place] = r.pick(sort);
+        }
         _ => {}
     }
 }

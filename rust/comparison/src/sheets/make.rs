@@ -1,6 +1,6 @@
 //! Sheets of every sort that accept their next tick.
 use crate::Kind;
-use crate::inputs::{self, Rng, any_bool, any_real};
+use crate::inputs::{self, MINUS_ZERO, Rng, any_bool, any_real};
 use crate::model::{self, leaves::UNSET};
 use crate::sheet::{BLOCKS, Row, Tick, words_of};
 
@@ -34,11 +34,16 @@ impl Sheet {
     /// A sheet of so many rows, on stretches of any words whose previous times are unset or not above the time.
     pub fn any(r: &mut Rng, count: usize) -> Sheet {
         let (averages, columns) = (r.one_in(6), any_columns(r));
+        let feeding = r.pick(&[Feeding::None, Feeding::None, Feeding::Any, Feeding::Chain]);
         let mut rows = vec![];
-        for _ in 0..count {
+        for n in 0..count {
             let kind = any_kind(r, averages);
-            let columns = [(); 3].map(|()| r.pick(&columns));
-            rows.push(Row::new(kind, &inputs::accepted_settings(r, kind), columns));
+            let mut row = Row::new(kind, &inputs::accepted_settings(r, kind), [0; 3]);
+            row.columns = [(); 3].map(|()| r.pick(&columns));
+            if n > 0 {
+                feeding.feed(r, n, &mut row);
+            }
+            rows.push(row);
         }
         let time = inputs::tame(r);
         Sheet {
@@ -89,6 +94,47 @@ impl Sheet {
     }
 }
 
+/// How the rows of a sheet feed each other.
+#[derive(Clone, Copy, PartialEq, Eq)]
+enum Feeding {
+    /// They do not.
+    None,
+    /// A column in two names an answer word of any row further up.
+    Any,
+    /// Every row from the second on reads the row above.
+    Chain,
+}
+
+impl Feeding {
+    /// Lets row n, which is not the first, read rows further up.
+    fn feed(self, r: &mut Rng, n: usize, row: &mut Row) {
+        let last = 2 * n as u64 - 1;
+        match self {
+            Feeding::None => return,
+            Feeding::Any => {
+                for column in &mut row.columns {
+                    let any = r.below(last + 1);
+                    let word = r.pick(&[last, last - 1, any]);
+                    *column = if r.one_in(2) { 8 + word } else { *column };
+                }
+            }
+            Feeding::Chain => {
+                let read = r.below(row.kind.inputs().len() as u64) as usize;
+                let word = if r.one_in(8) { last } else { last - 1 };
+                row.columns[read] = 8 + word;
+            }
+        }
+        if row.kind.is_controller() && r.one_in(4) {
+            limit_to_minus_zero(row);
+        }
+    }
+}
+
+/// Both limits of a controller at -0.0: so it answers, unless its sum is a zero or a NaN.
+fn limit_to_minus_zero(row: &mut Row) {
+    (row.settings[5], row.settings[6]) = (MINUS_ZERO, MINUS_ZERO);
+}
+
 /// An input word for a real or a boolean.
 fn any_word(r: &mut Rng) -> u64 {
     if r.one_in(2) {
@@ -111,7 +157,7 @@ fn any_kind(r: &mut Rng, averages: bool) -> Kind {
     }
 }
 
-/// The columns that the rows read: all eight, or few that they share.
+/// The words of the tick that the rows read: all eight, or few that they share.
 fn any_columns(r: &mut Rng) -> Vec<u64> {
     let count = if r.one_in(2) { 8 } else { 1 + r.below(3) };
     let first = r.below(8);

@@ -6,11 +6,14 @@ mod classes;
 mod compare;
 pub mod differ;
 mod faults;
+mod feeding;
 mod make;
 pub mod singly;
+pub mod worked;
 
 pub use call::{Call, Left};
 pub use classes::{SheetClass, expected_classes};
 pub use compare::compare;
-pub use faults::{Fault, due, plant};
+pub use faults::{Fault, bad_columns, due, plant};
+pub use feeding::{As, Bad, Fed};
 pub use make::Sheet;

@@ -12,8 +12,8 @@ fn laid(blocks: &Calls, rows: &[u64], region: &[u64]) -> Laid {
     let Some(rows) = rows_of(rows) else {
         return refused(NO_BLOCK, 0);
     };
-    let columns = rows.iter().flat_map(|row| row.columns);
-    if !(1..=16).contains(&rows.len()) || columns.max() > Some(7) {
+    let reads_ahead = |(n, row): (usize, &Row)| row.columns.iter().any(|c| *c >= readable(n));
+    if !(1..=16).contains(&rows.len()) || rows.iter().enumerate().any(reads_ahead) {
         return refused(1, 0);
     }
     let (mut laid, mut end) = (vec![], 0);
@@ -32,6 +32,11 @@ fn laid(blocks: &Calls, rows: &[u64], region: &[u64]) -> Laid {
     }
 }
 
+/// How many words stand before row n, which its columns may name: the tick's eight, and two for each row further up.
+fn readable(n: usize) -> u64 {
+    8 + 2 * n as u64
+}
+
 /// A start of each block.
 ///
 /// # Panics
@@ -48,7 +53,8 @@ pub fn start(blocks: &Calls, rows: &[u64], region: &mut [u64]) -> SheetAnswer {
     SheetAnswer::default()
 }
 
-/// An emit of each block, then an update of each. The least number of an emit is the sheet's.
+/// An emit of each block, top to bottom, then an update of each with the inputs that its emit saw. The least number of an emit is
+/// the sheet's.
 ///
 /// # Panics
 /// If a block refuses an update after it accepted the emit.
@@ -64,32 +70,48 @@ pub fn tick(
         Ok(_) => return SheetAnswer::refused(4, 0),
         Err(refused) => return refused,
     };
-    let inputs = |row: &Row| row.columns.map(|column| tick.words[column as usize]);
-    let emit = |(row, stretch): &(Row, Range<usize>)| {
-        (blocks.emit)(
-            row.kind,
-            &row.settings,
-            tick.time,
-            &inputs(row),
-            &region[stretch.clone()],
-        )
-    };
-    let emitted: Vec<Answer> = rows.iter().map(emit).collect();
-    if let Some(refused) = least(&emitted) {
+    let ran = emits(blocks, &rows, tick, region);
+    if let Some(refused) = least(&ran.emitted) {
         return refused;
     }
+    answers.copy_from_slice(&ran.words[8..]);
     let mut warning = false;
-    for (n, (row, stretch)) in rows.into_iter().enumerate() {
+    for ((row, stretch), inputs) in rows.into_iter().zip(&ran.received) {
         let words = &mut region[stretch];
-        let updated = (blocks.update)(row.kind, &row.settings, tick.time, &inputs(&row), words);
+        let updated = (blocks.update)(row.kind, &row.settings, tick.time, inputs, words);
         assert_eq!(updated.refusal, 0, "a block refuses its update");
         warning |= updated.warning;
-        (answers[2 * n], answers[2 * n + 1]) = crossed(&row, &emitted[n]);
     }
     SheetAnswer {
         warning,
         ..SheetAnswer::default()
     }
+}
+
+/// The emits of a tick: the inputs that each block received, what it answered, and all words that a column may name: the tick's,
+/// and then the answers.
+struct Emits {
+    received: Vec<[u64; 3]>,
+    emitted: Vec<Answer>,
+    words: Vec<u64>,
+}
+
+/// An emit of each block, top to bottom: a column is a place among the words that stand there by then.
+fn emits(blocks: &Calls, rows: &[(Row, Range<usize>)], tick: &Tick, region: &[u64]) -> Emits {
+    let mut ran = Emits {
+        received: vec![],
+        emitted: vec![],
+        words: tick.words.to_vec(),
+    };
+    for (row, stretch) in rows {
+        let (s, words) = (&row.settings, &region[stretch.clone()]);
+        let inputs = row.columns.map(|column| ran.words[column as usize]);
+        let answer = (blocks.emit)(row.kind, s, tick.time, &inputs, words);
+        ran.words.extend(crossed(row, &answer));
+        ran.received.push(inputs);
+        ran.emitted.push(answer);
+    }
+    ran
 }
 
 /// The least number of the blocks', and the topmost row that has it; 5 is of no row.
@@ -104,11 +126,11 @@ fn least(emitted: &[Answer]) -> Option<SheetAnswer> {
 }
 
 /// A row's two answer words.
-fn crossed(row: &Row, answer: &Answer) -> (u64, u64) {
+fn crossed(row: &Row, answer: &Answer) -> [u64; 2] {
     let boolean = u64::from(answer.boolean);
     match row.kind.outputs().as_bytes() {
-        [b'b'] => (boolean, 0),
-        [b'r'] => (answer.real, 0),
-        _ => (answer.real, boolean),
+        [b'b'] => [boolean, 0],
+        [b'r'] => [answer.real, 0],
+        _ => [answer.real, boolean],
     }
 }

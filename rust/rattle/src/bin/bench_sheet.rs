@@ -5,8 +5,8 @@
 //! - `bench_sheet CASE SIDE N` runs N ticks, for a tool that counts instructions. What comes before is the same for every N.
 //! - `bench_sheet CASE SIDE ns` prints the nanoseconds of a tick in the best list of ticks, of five runs.
 //!
-//! A side is `sheet`, an `oven_sheet_tick` for each tick; `singly`, an `oven_tick` for each row, on the row's stretch and
-//! with the inputs that its columns name; or `published`, the Rust's emit of each row and then its update of each, through
+//! A side is `sheet`, an `oven_sheet_tick` for each tick; `singly`, an `oven_tick` for each row, top to bottom, on the row's
+//! stretch and with the inputs that its columns name; or `published`, the Rust's emit of each row and then its update of each, through
 //! `dyn Block`, which tests nothing. All read ticks from one prepared list and store their answers in another.
 use std::ops::Range;
 use std::time::Instant;
@@ -31,6 +31,8 @@ type Words = [u64; 2 * ROWS];
 struct Single {
     row: Row,
     columns: [usize; 3],
+    /// Whether its first output is a real.
+    real: bool,
     stretch: Range<usize>,
 }
 
@@ -39,6 +41,7 @@ struct Proved {
     rows: Vec<u64>,
     singles: Vec<Single>,
     region: Vec<u64>,
+    feeds: bool,
 }
 
 impl Proved {
@@ -48,6 +51,7 @@ impl Proved {
         let singles = rows.into_iter().zip(case.stretches());
         let single = |(row, stretch): (Row, _)| Single {
             columns: row.columns.map(|column| column as usize),
+            real: row.kind.outputs().starts_with('r'),
             row,
             stretch,
         };
@@ -55,6 +59,7 @@ impl Proved {
             rows: words,
             singles: singles.map(single).collect(),
             region: case.region(),
+            feeds: case.feeds,
         }
     }
 
@@ -66,8 +71,36 @@ impl Proved {
         }
     }
 
-    #[inline(never)]
     fn singly(&mut self, ticks: &[Tick], answers: &mut [[AnswerWords; ROWS]]) {
+        if self.feeds {
+            self.singly_fed(ticks, answers);
+        } else {
+            self.singly_unfed(ticks, answers);
+        }
+    }
+
+    /// Top to bottom, with what each row hands on: no row of a case reads a second answer.
+    #[inline(never)]
+    fn singly_fed(&mut self, ticks: &[Tick], answers: &mut [[AnswerWords; ROWS]]) {
+        for (tick, answers) in ticks.iter().zip(answers) {
+            let mut named = [0; 8 + 2 * ROWS];
+            named[..8].copy_from_slice(&tick.words);
+            for (n, (single, answer)) in self.singles.iter().zip(answers).enumerate() {
+                let [first, second, third] = single.columns.map(|column| named[column]);
+                let words = &mut self.region[single.stretch.clone()];
+                let (asked, row) = ([tick.time, first, second, third], &single.row);
+                *answer = boundary::tick(row.kind as u64, &row.settings, asked, words);
+                named[8 + 2 * n] = if single.real {
+                    answer.real
+                } else {
+                    answer.boolean
+                };
+            }
+        }
+    }
+
+    #[inline(never)]
+    fn singly_unfed(&mut self, ticks: &[Tick], answers: &mut [[AnswerWords; ROWS]]) {
         for (tick, answers) in ticks.iter().zip(answers) {
             for (single, answer) in self.singles.iter().zip(answers) {
                 let [first, second, third] = single.columns.map(|column| tick.words[column]);

@@ -1,6 +1,6 @@
 -- `row_tick` takes its inputs from the words that the row's columns name. Assumes nothing.
 use mathlib.Core.Path.{refl}
-use Rattle.sheet.specs.Sheet.{tickBy}
+use Rattle.sheet.specs.Walk.{tickBy}
 use borrow.Author.Needs.{needs}
 use Rattle.sheet.proofs.turn.row_tick.Statement.{statement}
 use Rattle.sheet.proofs.turn.row_tick.Tie as tie

@@ -50,7 +50,7 @@ keeps (TrueHoldWithReset duration) w f =
     record { good = reset-hold.Good b; kept = reset-hold.kept b }
 
 -- a wiping tick leaves its own words
-wiped-words : (b : Block) → wipeable b ≡ true → WipedWords (machineOf b) (accountOf b)
+pub wiped-words : (b : Block) → wipeable b ≡ true → WipedWords (machineOf b) (accountOf b)
 unfolding machineOf accountOf
 wiped-words (Pid s) w = absurd (true≢false (sym w))
 wiped-words (PidWithReset s) w = controllers.wiped-words s (pi-mode _ w)

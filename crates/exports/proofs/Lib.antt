@@ -4,4 +4,5 @@ pub mod Zeros
 pub mod Naming
 pub mod Tabling
 pub mod Crossing
+pub mod Wiping
 pub mod OneResult

@@ -5,7 +5,7 @@ use native.Mathlib.Omega.{arith}
 use mathlib.Core.Path.{_≡_, refl, sym, _∙_, ap}
 use mathlib.Core.Bool.{Bool, true, false, cond}
 use mathlib.Core.Logic.{⊎-elim}
-use mathlib.Core.Option.{Option, none, some, Option·getD}
+use mathlib.Core.Option.{Option, none, some, Option·none-ne-some, Option·some-injective}
 use mathlib.Core.List.{List, [], _∷_, _++_, append-nil}
 use borrow.Author.Tests.{ltb-true, ltb-false, eq-eqb, ne-eqb}
 use lib.Dec.{eqb, ltb}
@@ -174,13 +174,9 @@ module _ (w : List ℕ) where
 
 -- ---- the table that is given
 module _ (w : List ℕ) (t : NamedTable) where
-  abbrev isNone : Option (List Row) → ℕ
-  isNone none = 1
-  isNone (some rs) = 0
-
   no-rows : rowsNamed w ≡ none → t .named ≡ false → Tabled (rowsNamed w) t
   unfolding byRows
-  no-rows e f = rw e (record { named = f; first = λ rs z. let one : _≡_ {A = ℕ} 1 0 = ap isNone z in absurd (omega (arith, one)) })
+  no-rows e f = rw e (record { named = f; first = λ rs z. absurd (Option·none-ne-some rs z) })
 
   -- the words are not whole rows
   pub tabled-odd : (length w % wordsPerRow ≡ 0 → ⊥) → t .named ≡ false → Tabled (rowsNamed w) t
@@ -198,4 +194,4 @@ pub tabled-all : (w : List ℕ) (xs : List Row) (n : ℕ) (rs : List Row) → le
 unfolding rowsNamed byRows
 tabled-all w xs n rs whole e shows =
     let named : rowsNamed w ≡ some rs = rw (eq-eqb _ _ whole, e) in
-    rw named (record { named = refl; first = λ ss z. shows ∙ ap (λ (o : Option (List Row)). take tableRows (Option·getD o [])) z })
+    rw named (record { named = refl; first = λ ss z. shows ∙ ap (take tableRows) (Option·some-injective rs ss z) })

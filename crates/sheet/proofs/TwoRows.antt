@@ -57,7 +57,6 @@ on w ok wipes there = record {
   since = [];
   there = there;
   can-wipe = refl;
-  settings-f64 = tt;
   accepted = ok;
   wiping = wipes;
 }

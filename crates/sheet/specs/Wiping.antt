@@ -5,7 +5,7 @@ use mathlib.Core.Bool.{true}
 use mathlib.Core.List.{List, map}
 use Rattle.dynamics.specs.Machine.{Call, Seen, Tick}
 use Rattle.dynamics.specs.History.{wiped, retold, grownThrough}
-use Rattle.blocks.specs.Wiping.{wipeable, accountOf, SettingsF64}
+use Rattle.blocks.specs.Wiping.{wipeable, accountOf}
 use Rattle.blocks.specs.declared.block.Block.{Block}
 use Rattle.sheet.specs.Rows.{placed}
 use Rattle.sheet.specs.Sheet.{tickNumber, Fed, fed, tickLeft}
@@ -24,7 +24,6 @@ pub record WipedRow : Type 0 where
   -- the row stands there with its stretch and with what it received of the tick, and its block is one that a tick can wipe
   pub there : At place row (fed (tick .tick) rows region)
   pub can-wipe : wipeable (row .row .block) ≡ true
-  pub settings-f64 : SettingsF64 (row .row .block)
   -- the sheet accepts the tick, which by what the row received wipes its block
   pub accepted : tickNumber (tick .tick .time) rows region space ≡ 0
   pub wiping : accountOf (row .row .block) .wipesOn (ownTick tick row) (row .words) ≡ true

@@ -1,4 +1,4 @@
-//! Compares sheets, call by call, with the model and with their blocks run singly.
+//! Compares sheets, call by call, with the model, with their blocks run singly, and with the published blocks run singly.
 //! The inputs depend on the seed alone, not on the calls that are compared.
 use std::panic::{UnwindSafe, catch_unwind};
 
@@ -8,6 +8,7 @@ use crate::tally::Tally;
 use crate::{Calls, model};
 
 use super::classes::{SheetClass, classes};
+use super::singly::{Blocks, PUBLISHED};
 use super::{Call, Fault, Left, Sheet, plant};
 
 /// Compares so many sheets, and ends at the first difference.
@@ -16,7 +17,7 @@ pub fn compare(subject: &SheetCalls, blocks: &Calls, sheets: u64, seed: u64) -> 
     let mut r = Rng::new(seed, 1000);
     let mut sides = Sides {
         subject,
-        blocks,
+        blocks: blocks.into(),
         tally: Tally::default(),
     };
     for n in 0..sheets {
@@ -31,7 +32,7 @@ pub fn compare(subject: &SheetCalls, blocks: &Calls, sheets: u64, seed: u64) -> 
 
 struct Sides<'a> {
     subject: &'a SheetCalls,
-    blocks: &'a Calls,
+    blocks: Blocks,
     tally: Tally<SheetClass>,
 }
 
@@ -65,8 +66,14 @@ impl Sides<'_> {
         self.tally.see_all(&classes(&call, &faults, &due));
         let (subject, blocks) = (self.subject, self.blocks);
         let got = caught(&call, || call.made(subject))?;
-        let singly = caught(&call, || call.made_singly(blocks))?;
-        for (whose, due) in [("the model", &due), ("its blocks run singly", &singly)] {
+        let singly = caught(&call, || call.made_singly(&blocks))?;
+        let published = caught(&call, || call.made_singly(&PUBLISHED))?;
+        let sides = [
+            ("the model", &due),
+            ("its blocks run singly", &singly),
+            ("the published blocks run singly", &published),
+        ];
+        for (whose, due) in sides {
             if let Some(what) = got.difference(due) {
                 return Err(format!("{what}, by {whose}, of {}", call.text()));
             }

@@ -1,4 +1,4 @@
-//! The program that compares sheets with the model and with their blocks run singly: `SHEETS SEED`.
+//! The program that compares sheets with the model, and with their blocks and the published ones run singly: `SHEETS SEED`.
 use crate::Calls;
 use crate::sheet::{NO_BLOCK, SheetCalls};
 use crate::tally::Tally;

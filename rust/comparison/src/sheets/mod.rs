@@ -1,5 +1,5 @@
-//! Bench sheets compared: made at random, with faults planted, against the model of document 01 and against their blocks
-//! run singly.
+//! Bench sheets compared: made at random, with faults planted, against the model of documents 01 and 02, against their blocks run
+//! singly, and against the published blocks run singly.
 mod call;
 pub mod cases;
 mod classes;

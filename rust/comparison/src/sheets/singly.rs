@@ -1,13 +1,54 @@
 //! A sheet as its blocks run singly: numbers, rows, answers and words come from each block's own calls on its stretch.
 use std::ops::Range;
 
+use crate::oracle::Oracle;
 use crate::sheet::{NO_BLOCK, Row, SheetAnswer, Tick, rows_of};
-use crate::{Answer, Calls};
+use crate::{Answer, Calls, Emit, Kind, Update, model};
+
+/// The calls of a block that a sheet makes.
+#[derive(Clone, Copy)]
+pub struct Blocks {
+    pub state_length: fn(Kind, &[u64]) -> (u64, usize),
+    pub start: fn(Kind, &[u64], &mut [u64]) -> u64,
+    pub emit: Emit,
+    pub update: Update,
+}
+
+impl From<&Calls> for Blocks {
+    fn from(calls: &Calls) -> Blocks {
+        Blocks {
+            state_length: calls.state_length,
+            start: calls.start,
+            emit: calls.emit,
+            update: calls.update,
+        }
+    }
+}
+
+/// The published Rust's. It refuses nothing: which number is due is document 01's, by the model.
+pub const PUBLISHED: Blocks = Blocks {
+    state_length: |kind, s| match model::state_length(kind, s) {
+        (0, _) => (0, Oracle::new(kind, s).state_length()),
+        refused => refused,
+    },
+    start: |kind, s, region| {
+        Oracle::new(kind, s).start(region);
+        0
+    },
+    emit: |kind, s, time, inputs, region| match model::refusal(kind, s, region, Some(time)) {
+        0 => Oracle::new(kind, s).emit(f64::from_bits(time), inputs, region),
+        number => Answer::refused(number),
+    },
+    update: |kind, s, time, inputs, region| match model::refusal(kind, s, region, Some(time)) {
+        0 => Oracle::new(kind, s).update(f64::from_bits(time), inputs, region),
+        number => Answer::refused(number),
+    },
+};
 
 /// Rows with their stretches, or the refusal of 13 or 1 to 3.
 type Laid = Result<Vec<(Row, Range<usize>)>, SheetAnswer>;
 
-fn laid(blocks: &Calls, rows: &[u64], region: &[u64]) -> Laid {
+fn laid(blocks: &Blocks, rows: &[u64], region: &[u64]) -> Laid {
     let refused = |number, row| Err(SheetAnswer::refused(number, row));
     let Some(rows) = rows_of(rows) else {
         return refused(NO_BLOCK, 0);
@@ -41,7 +82,7 @@ fn readable(n: usize) -> u64 {
 ///
 /// # Panics
 /// If a block refuses what its sheet accepts.
-pub fn start(blocks: &Calls, rows: &[u64], region: &mut [u64]) -> SheetAnswer {
+pub fn start(blocks: &Blocks, rows: &[u64], region: &mut [u64]) -> SheetAnswer {
     let rows = match laid(blocks, rows, region) {
         Ok(rows) => rows,
         Err(refused) => return refused,
@@ -59,7 +100,7 @@ pub fn start(blocks: &Calls, rows: &[u64], region: &mut [u64]) -> SheetAnswer {
 /// # Panics
 /// If a block refuses an update after it accepted the emit.
 pub fn tick(
-    blocks: &Calls,
+    blocks: &Blocks,
     rows: &[u64],
     tick: &Tick,
     region: &mut [u64],
@@ -97,7 +138,7 @@ struct Emits {
 }
 
 /// An emit of each block, top to bottom: a column is a place among the words that stand there by then.
-fn emits(blocks: &Calls, rows: &[(Row, Range<usize>)], tick: &Tick, region: &[u64]) -> Emits {
+fn emits(blocks: &Blocks, rows: &[(Row, Range<usize>)], tick: &Tick, region: &[u64]) -> Emits {
     let mut ran = Emits {
         received: vec![],
         emitted: vec![],

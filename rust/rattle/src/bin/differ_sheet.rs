@@ -1,4 +1,4 @@
-//! Compares the proved sheet with the model and with the proved blocks run singly: `differ_sheet SHEETS SEED`.
+//! Compares the proved sheet with the model, and with the proved and the published blocks run singly: `differ_sheet SHEETS SEED`.
 use comparison::sheets::differ;
 
 fn main() {

@@ -16,13 +16,13 @@ use Rattle.dynamics.specs.declared.call.Inputs.{Inputs}
 use Rattle.blocks.specs.Block.{machineOf, answerWords, inputsOf, ticked}
 use Rattle.blocks.specs.declared.block.OutputWords.{OutputWords}
 use Rattle.blocks.specs.declared.block.Tick.{Tick}
-use Rattle.sheet.specs.Rows.{wide, widthOf, Placed, placed, every, firstFailing, joined}
-use Rattle.sheet.specs.Sheet.{mostRows, inputWords, rowAnswers, inReach, allReach, rowTick, Fed, rowTicked, answersOf, feed, fedBelow}
+use Rattle.sheet.specs.Rows.{wide, widthOf, Placed, placed, every, firstFailing}
+use Rattle.sheet.specs.Sheet.{mostRows, inputWords, rowAnswers, inReach, allReach, rowTick, Fed, rowTicked, answersOf, feed}
 use Rattle.sheet.specs.Walk.{endsAt, ownWords, Carried, carried, isNew, noted, movedTo, tickBy, emittedRow, turnedIn, turned, walked, putTwo}
 use Rattle.sheet.specs.declared.row.Row.{Row}
 use Rattle.sheet.specs.declared.walk.Phase.the-variants.{Emit}
 use Rattle.sheet.proofs.Stretches.{both, either, cut, up-to, take-two, length-two}
-use Rattle.sheet.proofs.Feeding.{sees, allAnswers, none-answered}
+use Rattle.sheet.proofs.Feeding.{sees, allAnswers, none-answered, next-answered}
 use Rattle.sheet.proofs.Ends.{EndsAre, ends-stay}
 use Rattle.sheet.proofs.Walks.{midway, Above, above-of, new, old}
 use Rattle.sheet.proofs.Admission.{every-more, accepts}
@@ -146,8 +146,7 @@ module _ (k : Tick) (eight : length (k .words) ≡ inputWords) (ws : List ℕ) w
         rw (e, fits, take-two at-two seen (two .first) (two .second) (omega (arith, few, long)), sight) (append-assoc (k .words) above (answersOf here))
 
     answers-step : allAnswers k (above ++ answersOf here) rs (drop (at + wide r) ws) ≡ allAnswers k above (r ∷ rs) (drop at ws)
-    unfolding placed fedBelow joined
-    answers-step = rw (drop-drop (wide r) at ws) (append-assoc above (answersOf here) _)
+    answers-step = rw (drop-drop (wide r) at ws) at (next-answered k above r rs (drop at ws))
 
     emit-step : inReach n r ≡ true → number (k .time) ws (own (k .time) ws r at) ≡ 0 → getD seen (endsAt + n) 0 ≡ at + wide r → at + (wide r + widthOf rs) ≡ length ws
         → walked (k .time) n (r ∷ rs) (carried (midway Emit 0 0 at) ws seen) ≡ walked (k .time) (n + 1) rs (carried (midway Emit 0 0 (at + wide r)) ws now)

@@ -14,7 +14,7 @@ use lib.Ieee.{fin, ofBits, toBits, round}
 use Rattle.reals.specs.Words.{nearest, realOf, wordOf, flagOf, wordOfFlag}
 use Rattle.blocks.specs.declared.block.Tick.{Tick}
 use Rattle.sheet.specs.Rows.{wide, placed, every, anyOf, joined}
-use Rattle.sheet.specs.Sheet.{inputWords, rowAnswers, names, inReach, allReach, namedWord, rowTick, Fed, feed, fedBelow, answersOf}
+use Rattle.sheet.specs.Sheet.{inputWords, rowAnswers, names, inReach, allReach, namedWord, rowTick, Fed, feed, fedBelow, fed, answersOf}
 use Rattle.sheet.specs.Walk.{larger, tickBy}
 use Rattle.sheet.specs.declared.row.Row.{Row}
 use Rattle.sheet.proofs.Stretches.{both, either}
@@ -133,30 +133,31 @@ module _ (k : Tick) where
   unfolding placed fedBelow joined
   none-answered above ws = append-nil above
 
-  module _ (n : ℕ) (above : List ℕ) (long : length above ≡ rowAnswers * n) (r : Row) (rs : List Row) (ws : List ℕ) where
+  -- the first of these rows answers, and is above the others then
+  module _ (above : List ℕ) (r : Row) (rs : List Row) (ws : List ℕ) where
     abbrev here : Fed
     here = feed k above (record { row = r; words = take (wide r) ws })
 
-    abbrev next : List ℕ
+    abbrev pub next : List ℕ
     next = above ++ answersOf here
 
-    next-long : length next ≡ rowAnswers * (n + 1)
-    next-long = length-append above (answersOf here) ∙ omega (arith, long)
+    next-long : (n : ℕ) → length above ≡ rowAnswers * n → length next ≡ rowAnswers * (n + 1)
+    next-long n long = length-append above (answersOf here) ∙ omega (arith, long)
 
-    next-answered : allAnswers above (r ∷ rs) ws ≡ allAnswers next rs (drop (wide r) ws)
+    pub next-answered : allAnswers next rs (drop (wide r) ws) ≡ allAnswers above (r ∷ rs) ws
     unfolding placed fedBelow joined
-    next-answered = sym (append-assoc above (answersOf here) _)
+    next-answered = append-assoc above (answersOf here) _
 
-  pub hear : (n : ℕ) (rs : List Row) (ws above : List ℕ) → length above ≡ rowAnswers * n → allReach n rs ≡ true → fedBelow k above (placed rs ws) ≡ map (feed k (allAnswers above rs ws)) (placed rs ws)
+  hear : (n : ℕ) (rs : List Row) (ws above : List ℕ) → length above ≡ rowAnswers * n → allReach n rs ≡ true → fedBelow k above (placed rs ws) ≡ map (feed k (allAnswers above rs ws)) (placed rs ws)
   unfolding allReach placed fedBelow
   hear n [] ws above long e = refl
   hear n (r ∷ rs) ws above long e =
       let (t, u) = both (inReach n r) (allReach (n + 1) rs) e in
-      let more = hear (n + 1) rs (drop (wide r) ws) (next n above long r rs ws) (next-long n above long r rs ws) u in
+      let more = hear (n + 1) rs (drop (wide r) ws) (next above r rs ws) (next-long above r rs ws n long) u in
       let own = same-tick k above n r t (joined answersOf (fedBelow k above (placed (r ∷ rs) ws))) long in
-      λ i. record { row = r; words = take (wide r) ws; received = own i } ∷ (more ∙ ap (λ (l : List ℕ). map (feed k l) (placed rs (drop (wide r) ws))) (sym (next-answered n above long r rs ws))) i
+      λ i. record { row = r; words = take (wide r) ws; received = own i } ∷ (more ∙ ap (λ (l : List ℕ). map (feed k l) (placed rs (drop (wide r) ws))) (next-answered above r rs ws)) i
 
--- ---- over rows that are fed in the same way
+-- ---- over a list that was made from another
 module _ {A B : Type 0} (g : A → B) where
   pub joined-map : (f : B → List ℕ) (xs : List A) → joined f (map g xs) ≡ joined (λ x. f (g x)) xs
   unfolding joined
@@ -167,3 +168,18 @@ module _ {A B : Type 0} (g : A → B) where
   unfolding anyOf
   any-map f [] = refl
   any-map f (x ∷ xs) = ap (λ (b : Bool). f (g x) || b) (any-map f xs)
+
+-- ---- a sheet whose columns are all in reach: each row received of the answers that the tick hands out
+module _ (k : Tick) (rs : List Row) (ws : List ℕ) where
+  abbrev pub answered : List ℕ
+  answered = joined answersOf (fed k rs ws)
+
+  module _ (reach : allReach 0 rs ≡ true) where
+    pub each-fed : fed k rs ws ≡ map (feed k answered) (placed rs ws)
+    each-fed = hear k 0 rs ws [] refl reach
+
+    pub any-fed : (f : Fed → Bool) → anyOf f (fed k rs ws) ≡ anyOf (λ p. f (feed k answered p)) (placed rs ws)
+    any-fed f = ap (anyOf f) each-fed ∙ any-map (feed k answered) f (placed rs ws)
+
+    pub joined-fed : (f : Fed → List ℕ) → joined f (fed k rs ws) ≡ joined (λ p. f (feed k answered p)) (placed rs ws)
+    joined-fed f = ap (joined f) each-fed ∙ joined-map (feed k answered) f (placed rs ws)

@@ -5,7 +5,7 @@ use native.Mathlib.Omega.{arith}
 use mathlib.Core.Path.{_≡_, refl, sym, _∙_, ap}
 use mathlib.Core.Bool.{true, false, _&&_}
 use mathlib.Core.Logic.{inl, ⊎-elim}
-use mathlib.Core.List.{List, [], map, append-nil}
+use mathlib.Core.List.{List, [], append-nil}
 use borrow.Author.Tests.{leb-true, eqb-true, eqb-false, eq-eqb, ne-eqb, le-leb}
 use lib.Dec.{eqb, leb}
 use lib.ListN.{length, take, drop, replicate, length-append}
@@ -17,13 +17,13 @@ use Rattle.dynamics.proofs.Accepted.{accepted}
 use Rattle.dynamics.proofs.Accepted as by
 use Rattle.blocks.specs.declared.block.Tick.{Tick}
 use Rattle.sheet.specs.Rows.{widthOf, Placed, placed, every, anyOf, firstFailing, joined}
-use Rattle.sheet.specs.Sheet.{mostRows, inputWords, rowAnswers, fewRows, allReach, settled, decodes, onTime, startNumber, tickNumber, rowAtFault, startRow, startsOn, SheetStarted, tickSaid, SheetTicked, feed, fed, answersOf, warnsOf, leftOf}
+use Rattle.sheet.specs.Sheet.{mostRows, inputWords, rowAnswers, fewRows, allReach, settled, decodes, onTime, startNumber, tickNumber, rowAtFault, startRow, startsOn, SheetStarted, tickSaid, SheetTicked, fed, warnsOf, leftOf}
 use Rattle.sheet.specs.Walk.{ownWords, Carried, carried, ready, refusedWalk, begun, surveyed, formed, emittedAll, answerOf, walked, handedOn, starting, ticking, InSight, handedOut}
 use Rattle.sheet.specs.declared.row.Row.{Row}
 use Rattle.sheet.specs.declared.walk.Phase.the-variants.{Survey, Start, Emit, Update}
 use Rattle.sheet.specs.declared.walk.Walk.{Walk}
 use Rattle.sheet.proofs.Stretches.{both, either, behind}
-use Rattle.sheet.proofs.Feeding.{all-reach-more, hear, joined-map, any-map}
+use Rattle.sheet.proofs.Feeding.{all-reach-more, answered, any-fed, joined-fed}
 use Rattle.sheet.proofs.Ends.{EndsAre, ended, ended-long, ended-inputs, ends-are}
 use Rattle.sheet.proofs.Walks.{midway, Finds, as-found, passes-by, out-of-reach, unsettled, Misfits, missing, over-left, misfit, unharmed}
 use Rattle.sheet.proofs.Admission.{every-both, fitting, all-fit, gives-6, not-6, gives-7, gives-0, all-accept}
@@ -278,25 +278,18 @@ module _ (k : Tick) (rs : List Row) (ws os seen : List ℕ) (sight : InSight k s
                   unfolding tickNumber refusalOf
                   number = simp (few, reach, settles, fits, space, timely, decoded, ordered)
 
-                  -- the answers of all rows
-                  abbrev all-answers : List ℕ
-                  all-answers = joined answersOf (fed k rs ws)
-
-                  each : fed k rs ws ≡ map (feed k all-answers) ps
-                  each = hear k 0 rs ws [] refl reach
-
                   -- the emits
-                  shown : Emitted k (sight .eight) ws emitted (length rs) all-answers noted-ends
+                  shown : Emitted k (sight .eight) ws emitted (length rs) (answered k rs ws) noted-ends
                   shown = rw emits-from (rw (zero-add (length rs)) at (emits k (sight .eight) ws 0 rs 0 noted-ends [] width there reach
                       (all-accept time rs ws (sym (zero-add (widthOf rs)) ∙ width) settles timely decoded ordered) rows (ended-long 0 rs 0 seen ∙ long) (eight ∙ sym (append-nil (k .words)))))
 
                   -- the updates
                   works : Works last (anyOf warnsOf (fed k rs ws)) (joined leftOf (fed k rs ws)) (emitted .seen)
-                  works = rw (each, any-map (feed k all-answers) warnsOf ps, joined-map (feed k all-answers) leftOf ps, goes-on time rs ws emittedAll emitted (ready Update) (shown .region-is) (rw (shown .number-is) refl))
-                      (updated k all-answers (emitted .seen) (length rs) (sight .eight) (shown .in-sight) 0 rs 0 false ws width rows (shown .ends-too 0 rs 0 there) (all-reach-more 0 (length rs) rs (omega arith) reach))
+                  works = rw (any-fed k rs ws reach warnsOf, joined-fed k rs ws reach leftOf, goes-on time rs ws emittedAll emitted (ready Update) (shown .region-is) (rw (shown .number-is) refl))
+                      (updated k (answered k rs ws) (emitted .seen) (length rs) (sight .eight) (shown .in-sight) 0 rs 0 false ws width rows (shown .ends-too 0 rs 0 there) (all-reach-more 0 (length rs) rs (omega arith) reach))
 
-                  answers : take (length os) (drop inputWords (emitted .seen)) ≡ all-answers
-                  answers = ap (λ (n : ℕ). take n (drop inputWords (emitted .seen))) (eqb-true (length os) (rowAnswers * length rs) space) ∙ behind inputWords (emitted .seen) (k .words) all-answers (rowAnswers * length rs) (sight .eight) (shown .in-sight)
+                  answers : take (length os) (drop inputWords (emitted .seen)) ≡ answered k rs ws
+                  answers = ap (λ (n : ℕ). take n (drop inputWords (emitted .seen))) (eqb-true (length os) (rowAnswers * length rs) space) ∙ behind inputWords (emitted .seen) (k .words) (answered k rs ws) (rowAnswers * length rs) (sight .eight) (shown .in-sight)
 
                   in-order : Said
                   unfolding tickSaid

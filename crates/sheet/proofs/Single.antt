@@ -26,7 +26,7 @@ use Rattle.sheet.specs.Single.{At, nowHas, StartsSingly, TicksSingly, ow
 use Rattle.sheet.specs.declared.row.Row.{Row}
 use Rattle.sheet.specs.declared.row.SheetAnswer.{SheetAnswer}
 use Rattle.sheet.proofs.Stretches.{both, either}
-use Rattle.sheet.proofs.Feeding.{hear, joined-map, any-map}
+use Rattle.sheet.proofs.Feeding.{answered, each-fed, any-fed, joined-fed}
 use Rattle.sheet.proofs.Admission.{fitting, all-fit, gives-6, not-6, gives-7, gives-0, accepts, all-accept}
 
 -- ---- what stands at a place
@@ -117,22 +117,16 @@ module _ (k : Tick) (rs : List Row) (ws os : List ℕ) where
       eqb-true _ _ (every-at (accepts time) n p ps a (all-accept time rs ws (d .width) (d .settles) (d .timely) (d .decoded) (d .ordered)))
 
   module _ (z : tickNumber time rs ws os ≡ 0) where
+    all-reach : allReach 0 rs ≡ true
+    all-reach = passed z .reach
+
     -- the answers that it hands out
     abbrev answers : List ℕ
-    answers = joined answersOf (fed k rs ws)
+    answers = answered k rs ws
 
     -- each row received of them, and so the rows are those of the sheet, each with what it received
-    each : fed k rs ws ≡ map (feed k answers) ps
-    each = hear k 0 rs ws [] refl (passed z .reach)
-
     pub fed-there : (n : ℕ) (p : Placed) → At n p ps → At n (feed k answers p) (fed k rs ws)
-    fed-there n p a = subst (λ (qs : List Fed). At n (feed k answers p) qs) (sym each) (at-map (feed k answers) n p ps a)
-
-    any-there : (f : Fed → Bool) → anyOf f (fed k rs ws) ≡ anyOf (λ p. f (feed k answers p)) ps
-    any-there f = ap (anyOf f) each ∙ any-map (feed k answers) f ps
-
-    joined-there : (f : Fed → List ℕ) → joined f (fed k rs ws) ≡ joined (λ p. f (feed k answers p)) ps
-    joined-there f = ap (joined f) each ∙ joined-map (feed k answers) f ps
+    fed-there n p a = subst (λ (qs : List Fed). At n (feed k answers p) qs) (sym (each-fed k rs ws all-reach)) (at-map (feed k answers) n p ps a)
 
     module _ (r : SheetAnswer) (left out : List ℕ) (said : SheetTicked k rs ws os r left out) where
       hands-out : out ≡ answers
@@ -143,15 +137,15 @@ module _ (k : Tick) (rs : List Row) (ws os : List ℕ) where
       singly-at n p a = record {
         receives = ap (λ (l : List ℕ). rowTick k l (p .row)) (sym hands-out);
         accepts = tick-accepts z n p a;
-        answers = ap (λ (l : List ℕ). take rowAnswers (drop (rowAnswers * n) l)) (hands-out ∙ joined-there answersOf) ∙ two-at (λ q. answersOf (feed k answers q)) (λ q. refl) n p ps a;
-        leaves = rw (said .region, ← accepted (joined leftOf (fed k rs ws)) ws (tickNumber time rs ws os) (sym z), joined-there leftOf)
+        answers = ap (λ (l : List ℕ). take rowAnswers (drop (rowAnswers * n) l)) (hands-out ∙ joined-fed k rs ws all-reach answersOf) ∙ two-at (λ q. answersOf (feed k answers q)) (λ q. refl) n p ps a;
+        leaves = rw (said .region, ← accepted (joined leftOf (fed k rs ws)) ws (tickNumber time rs ws os) (sym z), joined-fed k rs ws all-reach leftOf)
             (work-at (λ q. leftOf (feed k answers q)) (λ q. updated-length (q .row .block) time _ (q .words)) rs ws (passed z .width) n p a);
       }
 
       -- every row's answer words and stretch are those of its block's own calls, on what it received
       pub tick-singly : (n : ℕ) (q : Fed) → At n q (fed k rs ws) → TicksSingly k rs q n left out
       tick-singly n q a =
-          let s = mapped-from (feed k answers) n q ps (subst (λ (qs : List Fed). At n q qs) each a) in
+          let s = mapped-from (feed k answers) n q ps (subst (λ (qs : List Fed). At n q qs) (each-fed k rs ws all-reach) a) in
           subst (λ (x : Fed). TicksSingly k rs x n left out) (sym (s .is)) (singly-at n (s .one) (s .there))
 
       -- the warning is that some row's own update, on what it received, warns
@@ -160,7 +154,7 @@ module _ (k : Tick) (rs : List Row) (ws os : List ℕ) where
 
       pub warns-singly : r .warning ≡ anyOf ownWarning (fed k rs ws)
       unfolding ticked rowTick tickSaid
-      warns-singly = ap (λ (a : SheetAnswer). a .warning) (said .answer ∙ sym (accepted _ _ _ (sym z))) ∙ any-there warnsOf ∙ sym (any-there ownWarning)
+      warns-singly = ap (λ (a : SheetAnswer). a .warning) (said .answer ∙ sym (accepted _ _ _ (sym z))) ∙ any-fed k rs ws all-reach warnsOf ∙ sym (any-fed k rs ws all-reach ownWarning)
 
 -- ---- an accepted start
 -- the row's block accepts a start on its own stretch

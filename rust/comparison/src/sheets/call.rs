@@ -1,8 +1,8 @@
 //! One call of a sheet with all that it is lent, and what it gives and leaves.
-use crate::hex;
 use crate::sheet::{ROW_WORDS, SheetAnswer, SheetCalls, Tick};
+use crate::{Calls, hex};
 
-use super::singly::{self, Blocks};
+use super::singly;
 
 /// A tick of a sheet, or a start if it has no tick. The rows are words; a start has no answers.
 #[derive(Clone, Debug, PartialEq, Eq)]
@@ -33,7 +33,7 @@ impl Call {
 
     /// The same, by the calls of single blocks.
     #[must_use]
-    pub fn made_singly(&self, blocks: &Blocks) -> Left {
+    pub fn made_singly(&self, blocks: &Calls) -> Left {
         self.left(|region, answers| match &self.tick {
             Some(tick) => singly::tick(blocks, &self.rows, tick, region, answers),
             None => singly::start(blocks, &self.rows, region),

@@ -8,7 +8,7 @@ use crate::tally::Tally;
 use crate::{Calls, model};
 
 use super::classes::{SheetClass, classes};
-use super::singly::{Blocks, PUBLISHED};
+use super::singly::PUBLISHED;
 use super::{Call, Fault, Left, Sheet, plant};
 
 /// Compares so many sheets, and ends at the first difference.
@@ -17,7 +17,7 @@ pub fn compare(subject: &SheetCalls, blocks: &Calls, sheets: u64, seed: u64) -> 
     let mut r = Rng::new(seed, 1000);
     let mut sides = Sides {
         subject,
-        blocks: blocks.into(),
+        blocks,
         tally: Tally::default(),
     };
     for n in 0..sheets {
@@ -32,7 +32,7 @@ pub fn compare(subject: &SheetCalls, blocks: &Calls, sheets: u64, seed: u64) -> 
 
 struct Sides<'a> {
     subject: &'a SheetCalls,
-    blocks: Blocks,
+    blocks: &'a Calls,
     tally: Tally<SheetClass>,
 }
 
@@ -66,7 +66,7 @@ impl Sides<'_> {
         self.tally.see_all(&classes(&call, &faults, &due));
         let (subject, blocks) = (self.subject, self.blocks);
         let got = caught(&call, || call.made(subject))?;
-        let singly = caught(&call, || call.made_singly(&blocks))?;
+        let singly = caught(&call, || call.made_singly(blocks))?;
         let published = caught(&call, || call.made_singly(&PUBLISHED))?;
         let sides = [
             ("the model", &due),

@@ -3,30 +3,11 @@ use std::ops::Range;
 
 use crate::oracle::Oracle;
 use crate::sheet::{NO_BLOCK, Row, SheetAnswer, Tick, rows_of};
-use crate::{Answer, Calls, Emit, Kind, Update, model};
+use crate::{Answer, Calls, model};
 
-/// The calls of a block that a sheet makes.
-#[derive(Clone, Copy)]
-pub struct Blocks {
-    pub state_length: fn(Kind, &[u64]) -> (u64, usize),
-    pub start: fn(Kind, &[u64], &mut [u64]) -> u64,
-    pub emit: Emit,
-    pub update: Update,
-}
-
-impl From<&Calls> for Blocks {
-    fn from(calls: &Calls) -> Blocks {
-        Blocks {
-            state_length: calls.state_length,
-            start: calls.start,
-            emit: calls.emit,
-            update: calls.update,
-        }
-    }
-}
-
-/// The published Rust's. It refuses nothing: which number is due is document 01's, by the model.
-pub const PUBLISHED: Blocks = Blocks {
+/// The published Rust's calls, as far as a sheet makes them; the others are the model's. It refuses nothing: which number is due is
+/// document 01's, by the model.
+pub const PUBLISHED: Calls = Calls {
     state_length: |kind, s| match model::state_length(kind, s) {
         (0, _) => (0, Oracle::new(kind, s).state_length()),
         refused => refused,
@@ -43,12 +24,13 @@ pub const PUBLISHED: Blocks = Blocks {
         0 => Oracle::new(kind, s).update(f64::from_bits(time), inputs, region),
         number => Answer::refused(number),
     },
+    ..model::CALLS
 };
 
 /// Rows with their stretches, or the refusal of 13 or 1 to 3.
 type Laid = Result<Vec<(Row, Range<usize>)>, SheetAnswer>;
 
-fn laid(blocks: &Blocks, rows: &[u64], region: &[u64]) -> Laid {
+fn laid(blocks: &Calls, rows: &[u64], region: &[u64]) -> Laid {
     let refused = |number, row| Err(SheetAnswer::refused(number, row));
     let Some(rows) = rows_of(rows) else {
         return refused(NO_BLOCK, 0);
@@ -82,7 +64,7 @@ fn readable(n: usize) -> u64 {
 ///
 /// # Panics
 /// If a block refuses what its sheet accepts.
-pub fn start(blocks: &Blocks, rows: &[u64], region: &mut [u64]) -> SheetAnswer {
+pub fn start(blocks: &Calls, rows: &[u64], region: &mut [u64]) -> SheetAnswer {
     let rows = match laid(blocks, rows, region) {
         Ok(rows) => rows,
         Err(refused) => return refused,
@@ -100,7 +82,7 @@ pub fn start(blocks: &Blocks, rows: &[u64], region: &mut [u64]) -> SheetAnswer {
 /// # Panics
 /// If a block refuses an update after it accepted the emit.
 pub fn tick(
-    blocks: &Blocks,
+    blocks: &Calls,
     rows: &[u64],
     tick: &Tick,
     region: &mut [u64],
@@ -138,7 +120,7 @@ struct Emits {
 }
 
 /// An emit of each block, top to bottom: a column is a place among the words that stand there by then.
-fn emits(blocks: &Blocks, rows: &[(Row, Range<usize>)], tick: &Tick, region: &[u64]) -> Emits {
+fn emits(blocks: &Calls, rows: &[(Row, Range<usize>)], tick: &Tick, region: &[u64]) -> Emits {
     let mut ran = Emits {
         received: vec![],
         emitted: vec![],

@@ -1,6 +1,7 @@
 /*
- * Every call of the boundary from C: on a delay of two seconds that is started at time 0 with a true input, and on a sheet
- * of such a delay and a soak clock that runs while the delay's answer is true. Prints examples/every_call.expected.
+ * Every call of the boundary from C: on a delay of two seconds that is started at time 0 with a true input, on a moving
+ * average whose points are put out of order, and on a sheet of such a delay and a soak clock that runs while the delay's
+ * answer is true. Prints examples/every_call.expected.
  */
 #include "oven.h"
 
@@ -27,6 +28,26 @@ static void show_answer(const char *call, struct oven_answer a) {
 static void show_sheet(const char *call, struct oven_sheet_answer a) {
     const uint64_t words[] = {a.refusal, a.row, a.warning};
     show(call, words, 3);
+}
+
+/* A moving average that has ticked at 1 and at 2 is sound. With the times of its two points swapped it is not, and an emit and
+ * an update accept it all the same. */
+static void average(void) {
+    enum { LENGTH = OVEN_MOVING_AVERAGE_LEAST_LENGTH, TIMES = 6 }; /* the points' times stand behind six other words */
+    static uint64_t region[LENGTH];
+    const uint64_t block = OVEN_MOVING_AVERAGE, delta = oven_word(60.0), input = oven_word(21.5);
+
+    oven_start(block, &delta, 1, region, LENGTH);
+    oven_update(block, &delta, 1, oven_word(1.0), input, 0, 0, region, LENGTH);
+    oven_update(block, &delta, 1, oven_word(2.0), input, 0, 0, region, LENGTH);
+    const uint64_t sound = oven_sound(block, &delta, 1, region, LENGTH);
+    show("average", &sound, 1);
+    region[TIMES] = oven_word(2.0);
+    region[TIMES + 1] = oven_word(1.0);
+    const uint64_t swapped = oven_sound(block, &delta, 1, region, LENGTH);
+    show("swapped", &swapped, 1);
+    show_answer("emit", oven_emit(block, &delta, 1, oven_word(3.0), input, 0, 0, region, LENGTH));
+    show_answer("update", oven_update(block, &delta, 1, oven_word(3.0), input, 0, 0, region, LENGTH));
 }
 
 /* The rows of a sheet, their words, and where each row's begin. */
@@ -127,6 +148,7 @@ int main(void) {
         oven_run(block, settings, 2, ticks, 12, region, 3, answers, 12),
     };
     show("refused", refused, 6);
+    average();
     sheet();
     return 0;
 }

@@ -3,6 +3,7 @@
 #include "checks.h"
 #include "classes.h"
 #include "due.h"
+#include "rings.h"
 
 /* Words of regions that one list may take; it keeps a list of a large ring short. */
 enum { WORDS_OF_A_LIST = 1 << 20 };
@@ -20,12 +21,12 @@ static uint64_t bench_region[REGION_MOST];
 
 /* ---- A block or a sheet to begin with. */
 
-/* A block's number; a moving average, whose regions are long, comes up once in 50. */
-static uint64_t some_block(struct bytes *b) {
+/* A block's number; a moving average, whose regions are long, comes up so often in 50. */
+static uint64_t some_block(struct bytes *b, size_t averages) {
     static const uint64_t others[] = {OVEN_PID,        OVEN_PID_WITH_RESET,  OVEN_TIMER_ACCUMULATING,
                                       OVEN_TRUE_DELAY, OVEN_TRUE_FALSE_HOLD, OVEN_TRUE_HOLD_WITH_RESET};
     const size_t choice = choose(b, 50);
-    return choice == 49 ? OVEN_MOVING_AVERAGE : others[choice % 6];
+    return choice >= 50 - averages ? OVEN_MOVING_AVERAGE : others[choice % 6];
 }
 
 /* A delta: mostly one of the least ring, sometimes of a longer one, now and then of the longest. */
@@ -66,7 +67,7 @@ static void put_at_rest(struct bytes *b) {
 }
 
 static void begin_block(struct bytes *b) {
-    bench.block = some_block(b);
+    bench.block = some_block(b, 2);
     bench.settings_len = due_settings(bench.block);
     some_settings(b, bench.block, bench.settings);
     some_region(b, due_length(bench.block, bench.settings));
@@ -92,7 +93,7 @@ static void begin_sheet(struct bytes *b) {
     bench.rows_len = rows * OVEN_ROW_WORDS;
     for (uint64_t *row = bench.rows; row < bench.rows + bench.rows_len; row += OVEN_ROW_WORDS) {
         memset(row, 0xFF, OVEN_ROW_WORDS * sizeof *row); /* settings that a block does not read are no numbers */
-        row[OVEN_ROW_BLOCK] = some_block(b);
+        row[OVEN_ROW_BLOCK] = some_block(b, 1);
         for (size_t n = OVEN_ROW_FIRST; n < OVEN_ROW_SETTINGS; n++) {
             row[n] = some_column(b, (size_t)(row - bench.rows) / OVEN_ROW_WORDS, feeds);
         }
@@ -247,12 +248,24 @@ static void go_on(const struct call *c, const struct outcome *o) {
     }
 }
 
+/* Puts another ring into a moving average's region, for this call and those to come. In half of the cases it is asked whether it
+ * is sound. */
+static void another_ring(struct bytes *b, struct call *c) {
+    put_ring(b, bench_region, bench.region_len);
+    const uint64_t previous = bench_region[RING_PREVIOUS];
+    bench.now = previous == OVEN_UNSET ? 0.0 : oven_real(previous);
+    c->kind = choose(b, 2) == 0 ? SOUND : c->kind;
+}
+
 /* A call of this list, as a user means it and in one of three cases spoilt. */
 static void one_call(struct bytes *b, bool of_sheet) {
     static const enum kind kinds[] = {TICK, UPDATE, EMIT, RUN, START, DECODE, SOUND, LENGTH, TICK, UPDATE};
     static struct outcome outcome;
     struct call c = {.block = bench.block, .region = {bench_region, bench.region_len}, .answers = {bench.answers, 0}};
     c.kind = of_sheet ? (choose(b, 6) == 0 ? SHEET_START : SHEET_TICK) : kinds[choose(b, 10)];
+    if (!of_sheet && bench.block == OVEN_MOVING_AVERAGE && choose(b, 3) == 0) {
+        another_ring(b, &c);
+    }
     c.time = any_time(b, bench.now);
     for (size_t n = 0; n < (of_sheet ? 8 : 3); n++) {
         c.inputs[n] = some_input(b);

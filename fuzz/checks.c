@@ -86,6 +86,7 @@ static void check_stored(const struct call *c, const uint64_t *region, uint64_t 
     require(points <= 2, "more than a time and an integral changed in the ring");
     const struct call decode = {.kind = DECODE, .block = c->block, .settings = c->settings, .region = {region, c->region.len}};
     require(due_of(&decode).number == OVEN_ACCEPTED, "the state left is damaged");
+    require(due_sound(&decode) || !due_sound(c), "a tick leaves a sound region that is not sound");
 }
 
 /* A refusal gives zeros beside its number, and the row of a sheet. */
@@ -201,6 +202,7 @@ static void accepted_run(const struct call *c, const struct outcome *o) {
         run_ticks++;
     }
     require(same_words(region, o->region, c->region.len), "a run leaves other words than its ticks");
+    require(due_sound(&tick) || !due_sound(c), "a run leaves a sound region that is not sound");
 }
 
 static void accepted_sound(const struct call *c, const struct outcome *o) { (void)c, (void)o; }
@@ -281,7 +283,7 @@ void check_call(const struct call *c, struct outcome *o) {
     checked = c;
     make(c, GUARD_BEHIND, due.number != OVEN_ACCEPTED, o);
     make(c, GUARD_BEFORE, due.number != OVEN_ACCEPTED, &again);
-    require(o->said[0] == (c->kind == SOUND ? due.number == OVEN_ACCEPTED : due.number), "the number");
+    require(o->said[0] == (c->kind == SOUND ? due_sound(c) : due.number), c->kind == SOUND ? "sound" : "the number");
     require(is_same(c, o, &again), "the same call gives or leaves other words");
     counts[c->kind][due.number]++;
     count_classes(c, o, due.number);

@@ -1,6 +1,7 @@
 /* The classes that calls must meet, and how often they did. */
 #include "classes.h"
 #include "due.h"
+#include "sound_classes.h"
 
 #include <inttypes.h>
 #include <stdio.h>
@@ -135,6 +136,9 @@ void count_classes(const struct call *c, const struct outcome *o, uint64_t numbe
     if (number == OVEN_ACCEPTED && c->kind == SHEET_TICK) {
         count_feds(c, o->answers);
     }
+    if (number == OVEN_ACCEPTED && c->kind == SOUND && c->block == OVEN_MOVING_AVERAGE) {
+        count_ring(c);
+    }
     if (number == OVEN_ACCEPTED && stores && c->block >= OVEN_TIMER_ACCUMULATING) {
         count_zero_sum(c, o->region);
     }
@@ -155,7 +159,7 @@ void count_classes(const struct call *c, const struct outcome *o, uint64_t numbe
     }
 }
 
-static void report(const char *what, const uint64_t *counts, size_t len, int *met, int *missed) {
+void report_counts(const char *what, const uint64_t *counts, size_t len, int *met, int *missed) {
     printf("%s:", what);
     for (size_t n = 0; n < len; n++) {
         printf(" %" PRIu64, counts[n]);
@@ -168,13 +172,15 @@ void report_classes(int *met, int *missed) {
     static const char *const names[LENGTHS] = {"of a region", "of a sheet's region", "of a sheet's answers"};
     printf("refused lengths, one and two more and less, none, half, double, 256 more\n");
     for (enum lent_length which = 0; which < LENGTHS; which++) {
-        report(names[which], lengths[which], OFFS, met, missed);
+        report_counts(names[which], lengths[which], OFFS, met, missed);
     }
-    report("sums of a -0.0 and a gap of -0.0, by timer", zero_sums, TIMERS, met, missed);
-    report("boolean settings neither 0 nor 1, of a block and in rows", booleans, OWNERS, met, missed);
-    report("fed words, a real, NaN and true as reals, a real, -0.0 and true as booleans, false, second true, no second, not read",
-           feds, FEDS, met, missed);
-    report("chains of rows that read each other, by their links from none to 8 or more", chains, CHAINS, met, missed);
-    report("refused columns of starts: own, own second, later, first behind, nothing", columns[0], COLUMNS, met, missed);
-    report("refused columns of ticks", columns[1], COLUMNS, met, missed);
+    report_counts("sums of a -0.0 and a gap of -0.0, by timer", zero_sums, TIMERS, met, missed);
+    report_counts("boolean settings neither 0 nor 1, of a block and in rows", booleans, OWNERS, met, missed);
+    report_rings(met, missed);
+    report_counts(
+        "fed words, a real, NaN and true as reals, a real, -0.0 and true as booleans, false, second true, no second, not read",
+        feds, FEDS, met, missed);
+    report_counts("chains of rows that read each other, by their links from none to 8 or more", chains, CHAINS, met, missed);
+    report_counts("refused columns of starts: own, own second, later, first behind, nothing", columns[0], COLUMNS, met, missed);
+    report_counts("refused columns of ticks", columns[1], COLUMNS, met, missed);
 }

@@ -1,5 +1,6 @@
-/* What calls must meet beside their numbers: refused lengths that are far off, boolean settings of any word, sums of -0.0, and of
- * rows that feed rows which words they hand on, how long a chain of them is, and which columns are refused. */
+/* What calls must meet beside their numbers: refused lengths that are far off, boolean settings of any word, sums of -0.0, rings
+ * that are sound or wrong in one place (sound_classes.h), and of rows that feed rows which words they hand on, how long a chain of
+ * them is, and which columns are refused. */
 #ifndef CLASSES_H
 #define CLASSES_H
 
@@ -16,5 +17,8 @@ void count_classes(const struct call *call, const struct outcome *outcome, uint6
 
 /* Prints how often each class was met, and adds those that were met and those that were not. */
 void report_classes(int *met, int *missed);
+
+/* The same of these classes. */
+void report_counts(const char *what, const uint64_t *counts, size_t len, int *met, int *missed);
 
 #endif

@@ -1,4 +1,4 @@
-/* Document 01's table of refusals, its state words and its start. */
+/* Document 01's table of refusals, its state words and its start; document 02's sound rings. */
 #include "due.h"
 
 enum { BLOCKS = 7, TYPES = 4, ROWS_MOST = 16, COLUMNS = 8 };
@@ -272,6 +272,31 @@ static uint64_t due_hold(const struct call *c, const uint64_t *after) {
 
 uint64_t due_sum(const struct call *c, const uint64_t *after) {
     return c->block == OVEN_TIMER_ACCUMULATING ? due_total(c) : c->block == OVEN_TRUE_DELAY ? due_delay(c) : due_hold(c, after);
+}
+
+/* ---- Sound. */
+
+/* Document 02: the times at positions below the count are finite, none is below the one before and none above the previous time,
+ * and the count is 0 while the previous time is unset. */
+static bool is_ring_sound(const uint64_t *settings, const uint64_t *region) {
+    const size_t slots = capacity(settings[0]), head = region[OVEN_MOVING_AVERAGE_STATE_HEAD];
+    const uint64_t previous = region[OVEN_MOVING_AVERAGE_STATE_PREVIOUS_TIME], count = region[OVEN_MOVING_AVERAGE_STATE_COUNT];
+    const uint64_t *times = region + strlen(due_layout(OVEN_MOVING_AVERAGE, settings)), *before = NULL;
+    for (size_t n = 0; n < count; n++) {
+        const uint64_t *time = times + (head + n) % slots;
+        if (!is_finite(*time) || previous == OVEN_UNSET || oven_real(*time) > oven_real(previous) ||
+            (before != NULL && oven_real(*time) < oven_real(*before))) {
+            return false;
+        }
+        before = time;
+    }
+    return true;
+}
+
+bool due_sound(const struct call *c) {
+    struct call sound = *c;
+    sound.kind = SOUND;
+    return due_number(&sound) == OVEN_ACCEPTED && (c->block != OVEN_MOVING_AVERAGE || is_ring_sound(c->settings.at, c->region.at));
 }
 
 /* ---- Decoding. */

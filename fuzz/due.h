@@ -1,4 +1,4 @@
-/* What document 01 and docs/BOUNDARY.md say is due, in plain C and apart from the library. */
+/* What documents 01 and 02 and docs/BOUNDARY.md say is due, in plain C and apart from the library. */
 #ifndef DUE_H
 #define DUE_H
 
@@ -41,6 +41,9 @@ void due_start(uint64_t block, const uint64_t *settings, uint64_t *region);
  * is behind the last word of a block that is no timer. */
 size_t due_sum_place(uint64_t block);
 uint64_t due_sum(const struct call *call, const uint64_t *after);
+
+/* Whether the region of this call, of one block, is sound. */
+bool due_sound(const struct call *call);
 
 /* The six words that a region decodes to. */
 void due_state(uint64_t block, const uint64_t *settings, const uint64_t *region, uint64_t *state);

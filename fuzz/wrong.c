@@ -2,7 +2,7 @@
  * Wrong libraries: the proved calls with one slip each. The linker puts them in the place of the library's
  * (`-Wl,--wrap=oven_start` and so on), and the variable WRONG says which slip there is. random_calls must catch each.
  */
-#include "oven.h"
+#include "rings.h"
 
 #include <stdlib.h>
 
@@ -50,11 +50,27 @@ enum slip {
     FEEDS_THE_NEXT_WORD,
     FEEDS_A_TRUE_AS_ONE,
     FEEDS_A_ZERO_WITHOUT_SIGN,
+    CALLS_ANY_POINTS_SOUND,
+    LEAVES_OUT_THE_FIRST_POINT,
+    LEAVES_OUT_THE_LAST_POINT,
+    LOOKS_AT_A_FREE_SLOT,
+    TAKES_SLOTS_FOR_POSITIONS,
+    TAKES_A_NAN_FOR_A_TIME,
+    REFUSES_EQUAL_NEIGHBOURS,
+    ORDERS_ZEROS_BY_THEIR_SIGN,
+    LEAVES_OUT_THE_PAIR_ACROSS_THE_TURN,
+    LEAVES_OUT_THE_PREVIOUS_TIME,
+    REFUSES_A_POINT_AT_THE_PREVIOUS_TIME,
+    TAKES_POINTS_BEFORE_THE_FIRST_TICK,
+    EMITS_SOUND_RINGS_ALONE,
+    UPDATES_SOUND_RINGS_ALONE,
+    DECODES_SOUND_RINGS_ALONE,
+    STORES_A_LATER_POINT,
     SLIPS
 };
 
-/* Whether the library has this slip. */
-static int has(enum slip slip) {
+/* The slip that the library has. */
+static int chosen_slip(void) {
     static int chosen = -1;
     if (chosen < 0) {
         const char *number = getenv("WRONG");
@@ -63,8 +79,9 @@ static int has(enum slip slip) {
             exit(3);
         }
     }
-    return chosen == (int)slip;
+    return chosen;
 }
+static int has(enum slip slip) { return chosen_slip() == (int)slip; }
 
 /* The library's own call and the one in its place, by the linker's names. */
 #define PAIR(name) __typeof__(name) __real_##name, __wrap_##name
@@ -105,6 +122,60 @@ static void lose_sign(uint64_t block, uint64_t number, uint64_t *w) {
     }
 }
 
+/* ---- Rings. */
+
+/* The time at position n, as the slip has it. */
+static double time_at(const uint64_t *w, size_t nw, size_t n) {
+    return oven_real(w[has(TAKES_SLOTS_FOR_POSITIONS) ? RING_TIMES + n : ring_place(w, nw, n)]);
+}
+
+/* Whether two neighbours are as those of a sound ring, as the slip has it. */
+static int rises(double before, double time) {
+    const int falls_to_minus_zero = oven_word(before) == 0 && oven_word(time) == 1ULL << 63;
+    return !(time < before) && !(has(REFUSES_EQUAL_NEIGHBOURS) && time == before) &&
+           !(has(ORDERS_ZEROS_BY_THEIR_SIGN) && falls_to_minus_zero);
+}
+
+/* Whether the time at position n is one of a sound ring. */
+static int fits(const uint64_t *w, size_t nw, size_t n) {
+    const double time = time_at(w, nw, n), previous = oven_real(w[RING_PREVIOUS]);
+    const int across = ring_place(w, nw, n) == RING_TIMES;
+    if (time - time != 0.0) { /* not finite */
+        return has(TAKES_A_NAN_FOR_A_TIME) && time != time;
+    }
+    if (n > 0 && !(has(LEAVES_OUT_THE_PAIR_ACROSS_THE_TURN) && across) && !rises(time_at(w, nw, n - 1), time)) {
+        return 0;
+    }
+    return has(LEAVES_OUT_THE_PREVIOUS_TIME) ||
+           !(time > previous || (has(REFUSES_A_POINT_AT_THE_PREVIOUS_TIME) && time == previous));
+}
+
+/* Whether the slip is one of sound, and what it says of a moving average's region that decodes. */
+static int finds_otherwise(void) {
+    return chosen_slip() >= CALLS_ANY_POINTS_SOUND && chosen_slip() <= TAKES_POINTS_BEFORE_THE_FIRST_TICK;
+}
+static uint64_t found(const uint64_t *w, size_t nw) {
+    const size_t count = w[RING_COUNT], seen = count + (has(LOOKS_AT_A_FREE_SLOT) && count < ring_slots(nw));
+    int is_sound = count == 0 || w[RING_PREVIOUS] != OVEN_UNSET || has(TAKES_POINTS_BEFORE_THE_FIRST_TICK);
+    for (size_t n = has(LEAVES_OUT_THE_FIRST_POINT); n + has(LEAVES_OUT_THE_LAST_POINT) < seen && is_sound; n++) {
+        is_sound = fits(w, nw, n);
+    }
+    return is_sound || has(CALLS_ANY_POINTS_SOUND);
+}
+
+/* Whether a region that decodes is refused all the same, because it is not sound. */
+static int is_refused(enum slip slip, uint64_t block, const uint64_t *s, size_t ns, const uint64_t *w, size_t nw) {
+    return has(slip) && __real_oven_decode(block, s, ns, w, nw).refusal == OVEN_ACCEPTED &&
+           __real_oven_sound(block, s, ns, w, nw) == 0;
+}
+
+/* Puts the point that a tick has stored on the next float, behind the previous time. */
+static void store_later(uint64_t block, uint64_t number, uint64_t *w, size_t nw) {
+    if (has(STORES_A_LATER_POINT) && number == OVEN_ACCEPTED && block == OVEN_MOVING_AVERAGE) {
+        w[ring_place(w, nw, w[RING_COUNT] - 1)]++;
+    }
+}
+
 /* Reads a word, whatever the compiler thinks of it. */
 static void touch(const uint64_t *word) { (void)*(const volatile uint64_t *)word; }
 
@@ -142,6 +213,9 @@ struct oven_answer __wrap_oven_emit(uint64_t block, const uint64_t *s, size_t ns
     if (has(GIVES_ANOTHER_NAN) && a.real == 0x7FF8000000000000) {
         a.real |= 1;
     }
+    if (a.refusal == OVEN_ACCEPTED && is_refused(EMITS_SOUND_RINGS_ALONE, block, s, ns, w, nw)) {
+        return (struct oven_answer){OVEN_BAD_STATE, 0, 0, 0};
+    }
     return a;
 }
 
@@ -149,11 +223,15 @@ struct oven_answer __wrap_oven_update(uint64_t block, const uint64_t *s, size_t 
                                       uint64_t third, uint64_t *w, size_t nw) {
     const uint64_t before = nw > 1 ? w[1] : 0;
     s = as_read(block, s, ns);
+    if (is_refused(UPDATES_SOUND_RINGS_ALONE, block, s, ns, w, nw)) {
+        return (struct oven_answer){OVEN_BAD_STATE, 0, 0, 0};
+    }
     struct oven_answer a = __real_oven_update(block, s, ns, time, first, second, third, w, nw);
     if (has(COMPARES_LOW_BYTES_OF_LENGTHS) && a.refusal == OVEN_BAD_LENGTH && nw % 256 == length_of(block, s) % 256) {
         a = __real_oven_update(block, s, ns, time, first, second, third, w, length_of(block, s));
     }
     lose_sign(block, a.refusal, w);
+    store_later(block, a.refusal, w, nw);
     if (has(WRITES_PAST_THE_REGION) && nw > 0) {
         w[nw] = 0;
     }
@@ -175,6 +253,7 @@ struct oven_answer __wrap_oven_tick(uint64_t block, const uint64_t *s, size_t ns
     s = as_read(block, s, ns);
     struct oven_answer a = __real_oven_tick(block, s, ns, time, first, second, third, w, nw);
     lose_sign(block, a.refusal, w);
+    store_later(block, a.refusal, w, nw);
     if (has(CHANGES_A_WORD_ON_REFUSAL) && a.refusal == OVEN_TIME_RUNS_BACK) {
         w[0] ^= 1;
     }
@@ -208,6 +287,9 @@ uint64_t __wrap_oven_sound(uint64_t block, const uint64_t *s, size_t ns, const u
     if (has(WRITES_WHAT_IS_READ) && nw > 0) {
         *(volatile uint64_t *)(uintptr_t)w = *w;
     }
+    if (finds_otherwise() && block == OVEN_MOVING_AVERAGE && __real_oven_decode(block, s, ns, w, nw).refusal == OVEN_ACCEPTED) {
+        return found(w, nw);
+    }
     return __real_oven_sound(block, s, ns, w, nw);
 }
 
@@ -215,6 +297,9 @@ struct oven_state __wrap_oven_decode(uint64_t block, const uint64_t *s, size_t n
     struct oven_state a = __real_oven_decode(block, s, ns, w, nw);
     if (has(DECODES_ANOTHER_WORD) && a.refusal == OVEN_ACCEPTED && block == OVEN_TRUE_FALSE_HOLD) {
         a.words[OVEN_HOLD_STATE_HELD] = w[OVEN_HOLD_STATE_HELD]; /* not 0 or 1 */
+    }
+    if (is_refused(DECODES_SOUND_RINGS_ALONE, block, s, ns, w, nw)) {
+        return (struct oven_state){.refusal = OVEN_BAD_STATE};
     }
     return a;
 }

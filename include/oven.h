@@ -230,7 +230,10 @@ uint64_t oven_run(uint64_t block, const uint64_t *settings, size_t settings_len,
                   const uint64_t *ticks, size_t ticks_len, uint64_t *region, size_t region_len,
                   uint64_t *answers, size_t answers_len);
 
-/* 1 if the region is one that oven_decode takes apart, else 0. */
+/* 1 if the region is sound, else 0: if oven_decode takes it apart and, of a moving average, its points are in order too. Their
+ * times are finite, none is below the one before (they may be equal, and -0.0 equals 0.0), none is above the previous time, and
+ * there are none while that is unset. A fresh start is sound, and an accepted tick leaves a sound region sound. No other call
+ * looks at every point: an emit and an update accept a region that oven_decode takes apart, sound or not. */
 uint64_t oven_sound(uint64_t block, const uint64_t *settings, size_t settings_len,
                     const uint64_t *region, size_t region_len);
 

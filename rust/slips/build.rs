@@ -1,15 +1,18 @@
-//! Makes a copy of the model of document 01 for each slip of the table, with the slip put in, one of its sheet for each slip of
-//! the sheet's, and a module that holds them all with their calls.
+//! Makes a copy of the model of document 01 for each slip of a block or of sound, with the slip put in, one of its sheet for each
+//! slip of the sheet's, and a module that holds them all with their calls.
 use std::fmt::Write as _;
 use std::path::{Path, PathBuf};
 use std::{env, fs};
 
 #[path = "src/sheet_table.rs"]
 mod sheet_table;
+#[path = "src/sound_table.rs"]
+mod sound_table;
 #[allow(dead_code)]
 #[path = "src/table.rs"]
 mod table;
 use sheet_table::SHEET_SLIPS;
+use sound_table::{REFUSING_SLIPS, SOUND_SLIPS};
 use table::{SLIPS, Slip};
 
 const MODEL: &str = "../comparison/src/model";
@@ -38,18 +41,24 @@ fn slip_into(slip: &Slip, folder: &Path) {
     fs::write(folder.join(slip.file), slipped(slip)).expect("the copy can be written");
 }
 
-/// The models with slips in their blocks, and the list of their calls.
-fn models(out: &Path) -> String {
+/// All calls of a slipped model, and its sound among those of the model without a slip: the rest of it is then not compiled.
+const ALL: fn(&str) -> String = |module| format!("{module}::CALLS");
+const SOUND: fn(&str) -> String =
+    |module| format!("crate::Calls {{ sound: {module}::sound, ..comparison::model::CALLS }}");
+
+/// The models with a table's slips, and the list of their calls, by this name.
+fn models(out: &Path, slips: &[Slip], list: &str, calls_of: fn(&str) -> String) -> String {
     let (mut modules, mut calls) = (String::new(), String::new());
-    for (n, slip) in SLIPS.iter().enumerate() {
-        let folder = out.join(format!("slip_{n}"));
+    for (n, slip) in slips.iter().enumerate() {
+        let module = format!("{}_{n}", list.to_lowercase());
+        let folder = out.join(&module);
         slip_into(slip, &folder);
         let path = folder.join("mod.rs");
-        writeln!(modules, "#[path = {path:?}]\nmod slip_{n};").expect("text grows");
-        writeln!(calls, "    slip_{n}::CALLS,").expect("text grows");
+        writeln!(modules, "#[path = {path:?}]\nmod {module};").expect("text grows");
+        writeln!(calls, "    {},", calls_of(&module)).expect("text grows");
     }
-    let count = SLIPS.len();
-    format!("{modules}\npub const CALLS: [crate::Calls; {count}] = [\n{calls}];\n")
+    let count = slips.len();
+    format!("{modules}\npub const {list}: [crate::Calls; {count}] = [\n{calls}];\n")
 }
 
 /// The sheets with slips, over the blocks of the model without one, and the list of their calls.
@@ -71,10 +80,16 @@ fn sheets(out: &Path) -> String {
 
 fn main() {
     println!("cargo:rerun-if-changed={MODEL}");
-    for file in ["src/table.rs", "src/sheet_table.rs", "build.rs"] {
+    let tables = ["src/table.rs", "src/sound_table.rs", "src/sheet_table.rs"];
+    for file in [&tables[..], &["build.rs"]].concat() {
         println!("cargo:rerun-if-changed={file}");
     }
     let out = PathBuf::from(env::var("OUT_DIR").expect("cargo names the folder"));
-    let text = models(&out) + &sheets(&out);
-    fs::write(out.join("slipped.rs"), text).expect("the module can be written");
+    let text = [
+        models(&out, &SLIPS, "CALLS", ALL),
+        models(&out, &SOUND_SLIPS, "SOUND_CALLS", SOUND),
+        models(&out, &REFUSING_SLIPS, "REFUSING_CALLS", ALL),
+        sheets(&out),
+    ];
+    fs::write(out.join("slipped.rs"), text.concat()).expect("the module can be written");
 }

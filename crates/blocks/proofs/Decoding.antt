@@ -3,17 +3,13 @@ use mathlib.Core.Path.{_≡_, refl}
 use mathlib.Core.List.{List}
 use Prim.Native.Nat.{ℕ, zero, suc}
 use native.Mathlib.Omega.{arith}
-use lib.Dec.{eqb}
 use Rattle.dynamics.specs.Answer.{accept}
-use Rattle.dynamics.specs.Machine.{decodeRefusal, isSound}
-use Rattle.dynamics.specs.Stepped.{steppedMachine, openedAs}
-use Rattle.dynamics.proofs.Calls.{sound-decodes}
+use Rattle.dynamics.specs.Machine.{decodeRefusal}
+use Rattle.dynamics.specs.Stepped.{openedAs}
 use Rattle.dynamics.proofs.Opening.{Enum, Opened, Decodes, decodes}
-use Rattle.moving_average.specs.MovingAverage.{machineFor}
 use Rattle.blocks.specs.Block.{machineOf}
 use Rattle.blocks.specs.Decoded.{stateOf, zeros, opened, reads}
 use Rattle.blocks.specs.declared.block.Block.{Block}
-use Rattle.blocks.specs.declared.block.Block.the-variants.{Pid, PidWithReset, MovingAverage, TimerAccumulating, TrueDelay, TrueFalseHold, TrueHoldWithReset}
 use Rattle.blocks.specs.declared.decoded.State.{State}
 use Rattle.blocks.specs.declared.decoded.Decoded.{Decoded}
 use Rattle.blocks.specs.declared.decoded.Decoded.the-variants.{Refused}
@@ -44,18 +40,3 @@ carried E f g is none (suc n) s = none (suc n)
 -- the region of a block b, which is this one, opened: what that says by document 01, its number, and the state or the record of zeros
 pub says : {b this : Block} → b ≡ this → (w : List ℕ) {d : Decoded} → d ≡ opened this (decodeRefusal (machineOf this) w) w → Decodes (decoded b) (machineOf b) (stateOf b) w d
 says {b} {this} is w o = decodes (decoded b) (machineOf b) (stateOf b) w (rw is o)
-
--- sound asks of a block's words what decoding asks
-sound-asks : (b : Block) (w : List ℕ) → machineOf b .sound w ≡ machineOf b .decodes w
-unfolding machineOf steppedMachine machineFor
-sound-asks (Pid s) w = refl
-sound-asks (PidWithReset s) w = refl
-sound-asks (MovingAverage delta) w = refl
-sound-asks (TimerAccumulating t) w = refl
-sound-asks (TrueDelay time on-init) w = refl
-sound-asks (TrueFalseHold long-true long-false) w = refl
-sound-asks (TrueHoldWithReset duration) w = refl
-
--- so sound is yes exactly when none of the refusals applies
-pub sound-exactly : (b : Block) (w : List ℕ) → isSound (machineOf b) w ≡ eqb (decodeRefusal (machineOf b) w) 0
-sound-exactly b w = sound-decodes (machineOf b) w (sound-asks b w)

@@ -1,5 +1,6 @@
 -- Laws of the choice over the seven blocks.
 pub mod Decoding
+pub mod Sounds
 pub mod OneResult
 pub mod Lengths
 pub mod Lacking

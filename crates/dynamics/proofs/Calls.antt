@@ -3,7 +3,7 @@ use mathlib.Core.Path.{_≡_, refl, sym, ap, _∙_}
 use mathlib.Core.Bool.{Bool, true, false, not}
 use mathlib.Core.List.{List, [], _∷_}
 use Prim.Native.Nat.{ℕ, zero, suc}
-use borrow.Author.Tests.{eq-eqb}
+use borrow.Author.Tests.{eq-eqb, not-true}
 use lib.Dec.{eqb}
 use lib.ListN.{length}
 use lib.Ieee.{Float}
@@ -34,7 +34,7 @@ module _ (M : Machine) (w : List ℕ) where
   unfolding startedWords
   start-refused e h = record { answers = e; leaves = by.refused _ _ (startRefusal M w) e h }
 
-  start-passed : startRefusal M w ≡ 0 → (M .accepts ≡ true) × (sized M w ≡ true)
+  pub start-passed : startRefusal M w ≡ 0 → (M .accepts ≡ true) × (sized M w ≡ true)
   unfolding startRefusal formRefusal
   start-passed z = let (_, s, l, _, _, _, _) = all-passed true (M .accepts) (sized M w) true true true true z in (s, l)
 
@@ -49,10 +49,11 @@ module _ (M : Machine) (w : List ℕ) where
   pub stored-fresh : (v : List ℕ) {w' : List ℕ} → length v ≡ M .size → 0 ≡ startRefusal M w → v ≡ M .fresh → w' ≡ stored w v → w' ≡ M .fresh
   stored-fresh v l z f s = s ∙ stored-all M w v l (start-passed (sym z) .1) ∙ f
 
-  -- a fresh start is sound, if the block's fresh words are
-  pub start-sound : length (M .fresh) ≡ M .size → M .sound (M .fresh) ≡ true → startRefusal M w ≡ 0 → isSound M (startedWords M w) ≡ true
-  unfolding startedWords isSound refusalOf
-  start-sound l s z = rw (← accepted (M .fresh) w (startRefusal M w) (sym z)) (simp (start-passed z .0, l, eq-eqb (M .size) (M .size) refl, s))
+-- ---- decoding, and sound
+-- what it tells that a region decodes
+pub decode-passed : (M : Machine) (w : List ℕ) → decodeRefusal M w ≡ 0 → (M .accepts ≡ true) × (sized M w ≡ true) × (M .decodes w ≡ true)
+unfolding decodeRefusal
+decode-passed M w z = let (_, s, l, _, _, d, _) = all-passed true (M .accepts) (sized M w) true true (M .decodes w) true z in (s, l, d)
 
 -- where sound asks no more than decoding does, a region is sound exactly if it decodes
 pub sound-decodes : (M : Machine) (w : List ℕ) → M .sound w ≡ M .decodes w → isSound M w ≡ eqb (decodeRefusal M w) 0
@@ -80,6 +81,9 @@ module _ (M : Machine) (time : Float) (i : Inputs) (w : List ℕ) where
 
   pub tick-decodes : number ≡ 0 → M .decodes w ≡ true
   tick-decodes z = passed z .3
+
+  pub tick-order : number ≡ 0 → runsBack time (M .previous w) ≡ false
+  tick-order z = not-true _ (passed z .4)
 
   -- what a refused call gives
   pub emit-refused : {n : ℕ} → n ≡ number → (n ≡ 0 → ⊥) → silent n ≡ emitAnswer M time i w

@@ -51,12 +51,12 @@ module _ {S D : Type 0} (E : Enum S D) where
   open-state n x z e = ap (E .state) e ∙ accepted _ _ n z
 
   -- taken apart
-  was-refused : (n : ℕ) (x : S) (m : ℕ) → Opened n x ≡ E .refused m → n ≡ 0 → ⊥
+  pub was-refused : (n : ℕ) (x : S) (m : ℕ) → Opened n x ≡ E .refused m → n ≡ 0 → ⊥
   unfolding openedAs accept
   was-refused zero x m d z = E .apart x m d
   was-refused (suc n) x m d z = omega arith
 
-  was-state : (n : ℕ) (x s : S) → Opened n x ≡ E .state s → (n ≡ 0) × (s ≡ x)
+  pub was-state : (n : ℕ) (x s : S) → Opened n x ≡ E .state s → (n ≡ 0) × (s ≡ x)
   unfolding openedAs accept
   was-state zero x s d = (refl, sym (ap (λ (r : Reading S). r .state) (sym (E .reads-state x) ∙ ap (E .reads) d ∙ E .reads-state s)))
   was-state (suc n) x s d = absurd (E .apart s (suc n) (sym d))

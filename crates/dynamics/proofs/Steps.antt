@@ -5,18 +5,24 @@ use mathlib.Core.List.{List}
 use Prim.Native.Nat.{ℕ}
 use lib.Ieee.{Float}
 use lib.Dec.{eqb}
+use lib.Ieee.Scale.{finite}
 use lib.ListN.{length}
-use Rattle.dynamics.specs.Previous.{soundPrevious}
+use Rattle.reals.specs.Words.{wordOf}
+use Rattle.dynamics.specs.Previous.{previousOf, soundPrevious}
 use Rattle.dynamics.specs.Answer.{silent, emitted, formRefusal, timeRefusal}
 use Rattle.dynamics.specs.Region.{stored, Gives}
-use Rattle.dynamics.specs.Machine.{Machine, startRefusal, startedWords, decodeRefusal, isSound, tickRefusal, emitAnswer, updateAnswer, updatedWords, tickAnswer}
+use Rattle.dynamics.specs.Machine.{Machine, startRefusal, startedWords, decodeRefusal, isSound, tickRefusal, emitAnswer, updateAnswer, updatedWords, tickAnswer, Tick}
+use Rattle.dynamics.specs.Sound.{StaysSound}
 use Rattle.dynamics.specs.Stepped.{Stepped, steppedMachine}
 use Rattle.dynamics.specs.declared.call.Answer.{Answer}
 use Rattle.dynamics.specs.declared.call.Inputs.{Inputs}
 use Rattle.dynamics.specs.declared.previous.Previous.the-variants.{Unset}
-use Rattle.dynamics.proofs.Calls.{start-sound, start-accepted, emit-accepted, update-accepted, tick-accepted, stored-fresh, stored-after}
+use Rattle.dynamics.proofs.Calls.{tick-time, start-accepted, emit-accepted, update-accepted, tick-accepted, stored-fresh, stored-after}
 use Rattle.dynamics.proofs.Opening.{Enum, Opened, Decodes, ok, here, fine}
 use Rattle.dynamics.proofs.Opening as opening
+use Rattle.dynamics.proofs.Times.{previous-back}
+use Rattle.dynamics.proofs.Sounds.{Keeps}
+use Rattle.dynamics.proofs.Sounds as sounds
 
 -- Blocks with settings X whose calls open an enum first. A state has as many words as the block says, and a fresh one is read
 -- back with its previous time unset.
@@ -128,7 +134,22 @@ module _ {X S D : Type 0} (O : Opens X S D) (b : X) where
     unfolding steppedMachine
     sound-number = opening.sound-number E M (B .stateOf) w refl
 
-    -- a fresh start is sound
-    pub fresh-sound : startRefusal M w ≡ 0 → isSound M (startedWords M w) ≡ true
-    unfolding steppedMachine
-    fresh-sound z = start-sound M w (O .counted b (B .initial)) (ap soundPrevious (O .fresh-unset b)) z
+  -- after a tick the previous time is read back from the word of the tick's own, if the block keeps it at all
+  abbrev pub ReadsTime : Type 0
+  ReadsTime = (s : S) (time : Float) (i : Inputs) → soundPrevious (previousOf (wordOf time)) ≡ true
+      → soundPrevious (B .previous (B .stateOf (B .wordsOf (B .advance s time i)))) ≡ true
+
+  -- so a fresh start is sound, and each call keeps a sound region sound
+  pub stays-sound : ReadsTime → StaysSound M
+  stays-sound reads = sounds.stays-sound M keeps
+    where
+      time-sound : (k : Tick) → finite (k .time) ≡ true → soundPrevious (previousOf (wordOf (k .time))) ≡ true
+      time-sound k f = rw (previous-back (k .time) (k .is-f64)) f
+
+      keeps : Keeps M
+      keeps = unfold steppedMachine in record {
+        fresh-counted = O .counted b (B .initial);
+        fresh-sound = ap soundPrevious (O .fresh-unset b);
+        after-counted = λ w k ok. O .counted b _;
+        after-sound = λ w k ok s. reads _ (k .time) (k .inputs) (time-sound k (tick-time M (k .time) (k .inputs) w ok));
+      }

@@ -4,5 +4,6 @@ pub mod Leaves
 pub mod Answer
 pub mod Region
 pub mod Machine
+pub mod Sound
 pub mod History
 pub mod Stepped

@@ -4,26 +4,29 @@ use mathlib.Core.Bool.{Bool, true, false, _&&_}
 use mathlib.Core.List.{List, []}
 use Prim.Native.Nat.{ℕ, suc, _+_, _*_, _≤_, _<_}
 use native.Mathlib.Omega.{arith}
-use borrow.Author.Tests.{eqb-true}
-use lib.Dec.{T, eqb, ltb, leb, ltb→lt, leb→le}
+use borrow.Author.Tests.{eqb-true, eq-eqb, ne-eqb, ltb-true, leb-true}
+use lib.Dec.{eqb, ltb, leb}
 use lib.ListN.{length, set, replicate}
 use lib.Ieee.{Float, ofBits}
 use lib.Ieee.Scale.{finite}
-use lib.Ieee.Fits.{and-l, and-r}
 use Rattle.dynamics.specs.Previous.{unset, previousOf, soundPrevious}
 use Rattle.dynamics.specs.Answer.{formRefusal, timeRefusal}
 use Rattle.dynamics.specs.Region.{Gives}
-use Rattle.dynamics.specs.Machine.{sized, startRefusal, startedWords, tickRefusal}
+use Rattle.dynamics.specs.Machine.{sized, startRefusal, startedWords, decodeRefusal, tickRefusal, isSound}
 use Rattle.dynamics.specs.declared.call.Inputs.{Inputs}
-use Rattle.dynamics.proofs.Calls.{start-accepted, start-sized, tick-sized, tick-decodes}
-use Rattle.dynamics.proofs.Opening.{Enum, Decodes, fine}
+use Rattle.dynamics.proofs.Calls.{start-accepted, start-sized, tick-sized, tick-decodes, decode-passed}
+use Rattle.dynamics.proofs.Sounds.{sound-more}
+use Rattle.dynamics.proofs.Opening.{Enum, Decodes, fine, was-refused, was-state}
 use Rattle.dynamics.proofs.Opening as opening
 use Rattle.window.specs.Geometry.{geometryOf}
 use Rattle.window.specs.declared.ring.RingGeometry.{RingGeometry}
+use Rattle.window.specs.Order.{isOrdered}
 use Rattle.window.proofs.Sizes.{capacity-most, length-is}
-use Rattle.moving_average.specs.Ring.{Holds}
-use Rattle.moving_average.specs.MovingAverage.{stateOf, ringOf, decodable, fresh, machineFor, machine, opened, zeros, reads}
+use Rattle.window.proofs.Orders.{and-both}
+use Rattle.moving_average.specs.Ring.{Holds, timeAt}
+use Rattle.moving_average.specs.MovingAverage.{stateOf, ringOf, decodable, inOrder, fresh, machineFor, machine, opened, zeros, reads}
 use Rattle.moving_average.specs.declared.MovingAverage.{MovingAverage}
+use Rattle.moving_average.specs.declared.ring.Ring.{Ring}
 use Rattle.moving_average.specs.declared.state.State.{State}
 use Rattle.moving_average.specs.declared.state.Decoded.{Decoded}
 use Rattle.moving_average.specs.declared.state.Decoded.the-variants.{Refused}
@@ -116,17 +119,51 @@ module _ (b : MovingAverage) (w : List ℕ) {g : RingGeometry} (shaped : g ≡ g
         pub admit-else : (k ≡ 0 → ⊥) → Refused k ≡ opened (tickRefusal (machine b) time w) w
         admit-else = opening.admit-else decoded (machine b) stateOf w known tested good e told time before t
 
--- ---- the ring of an accepted tick stands in its region
-within : (s : State) (cap : ℕ) → decodable s cap ≡ true → (s .head < cap) × (s .count ≤ cap)
+-- ---- a region of the state's length that decodes: its previous time is unset or finite, and its ring stands in it
+within : (s : State) (cap : ℕ) → decodable s cap ≡ true → (soundPrevious (s .previous) ≡ true) × (s .head < cap) × (s .count ≤ cap)
 unfolding decodable
 within s cap e =
-    let both : T ((soundPrevious (s .previous) && ltb (s .head) cap) && leb (s .count) cap) = rw e tt in
-    let first : T (ltb (s .head) cap) = and-r (soundPrevious (s .previous)) _ (and-l (soundPrevious (s .previous) && ltb (s .head) cap) _ both) in
-    let counted : T (leb (s .count) cap) = and-r (soundPrevious (s .previous) && ltb (s .head) cap) _ both in
-    (ltb→lt _ _ first, leb→le _ _ counted)
+    let (two, counted) = and-both (soundPrevious (s .previous) && ltb (s .head) cap) (leb (s .count) cap) e in
+    let (time, first) = and-both (soundPrevious (s .previous)) (ltb (s .head) cap) two in
+    (time, ltb-true _ _ first, leb-true _ _ counted)
 
+module _ (b : MovingAverage) (w : List ℕ) (d : machine b .decodes w ≡ true) where
+  pub previous-decodes : soundPrevious (stateOf w .previous) ≡ true
+  unfolding machineFor
+  previous-decodes = within (stateOf w) (geometryOf (b .delta) .capacity) d .0
+
+  pub ring-holds : sized (machine b) w ≡ true → Holds w (ringOf (stateOf w) (geometryOf (b .delta) .capacity))
+  unfolding machineFor
+  ring-holds l =
+      let (_, first, counted) = within (stateOf w) (geometryOf (b .delta) .capacity) d in
+      record { stands = record { few = capacity-most (b .delta); first = first; counted = counted }; size = long b w l }
+
+-- so does the ring of an accepted tick
 pub holds : (b : MovingAverage) (time : Float) (i : Inputs) (w : List ℕ) → tickRefusal (machine b) time w ≡ 0 → Holds w (ringOf (stateOf w) (geometryOf (b .delta) .capacity))
-unfolding machineFor
-holds b time i w z =
-    let (first, counted) = within (stateOf w) (geometryOf (b .delta) .capacity) (tick-decodes (machine b) time i w z) in
-    record { stands = record { few = capacity-most (b .delta); first = first; counted = counted }; size = long b w (tick-sized (machine b) time i w z) }
+holds b time i w z = ring-holds b w (tick-decodes (machine b) time i w z) (tick-sized (machine b) time i w z)
+
+-- ---- sound: the region is taken apart, then its ring is looked at
+module _ (b : MovingAverage) (w : List ℕ) where
+  abbrev ring : Ring
+  ring = ringOf (stateOf w) (geometryOf (b .delta) .capacity)
+
+  -- it is yes exactly if the region decodes and its times are in order
+  pub sound-is : isSound (machine b) w ≡ eqb (decodeRefusal (machine b) w) 0 && isOrdered (timeAt w ring) (stateOf w .count) (stateOf w .previous)
+  unfolding machineFor inOrder
+  sound-is = sound-more (machine b) w _ refl
+
+  module _ {d : Decoded} (met : d ≡ opened (decodeRefusal (machine b) w) w) where
+    pub sound-else : {n : ℕ} → d ≡ Refused n → false ≡ isSound (machine b) w
+    sound-else {n} is = sym (sound-is ∙ rw (ne-eqb _ 0 (was-refused decoded (decodeRefusal (machine b) w) (stateOf w) n (sym met ∙ is))) refl)
+
+    module _ {s : State} (is : d ≡ variant.State s) {g : RingGeometry} (shaped : g ≡ geometryOf (b .delta)) {r : Ring} (whole : r ≡ ringOf s (g .capacity)) where
+      opens : (decodeRefusal (machine b) w ≡ 0) × (s ≡ stateOf w)
+      opens = was-state decoded (decodeRefusal (machine b) w) (stateOf w) s (sym met ∙ is)
+
+      pub order-asks : Holds w r × (soundPrevious (s .previous) ≡ true)
+      order-asks =
+          let (_, l, e) = decode-passed (machine b) w (opens .0) in
+          rw (whole, shaped, opens .1) (ring-holds b w e l, previous-decodes b w e)
+
+      pub sound-then : {o : Bool} → o ≡ isOrdered (timeAt w r) (r .count) (s .previous) → o ≡ isSound (machine b) w
+      sound-then o = o ∙ rw (whole, shaped, opens .1) (sym (sound-is ∙ rw (eq-eqb _ 0 (opens .0)) refl))

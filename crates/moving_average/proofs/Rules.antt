@@ -1,8 +1,8 @@
--- What an accepted tick leaves, as document 01 says it: the length, the start time's word, the coalesced word and the warning. And a fresh start is sound. Assumes nothing.
+-- What an accepted tick leaves, as document 01 says it: the length, the start time's word, the coalesced word and the warning; and that it decodes. Assumes nothing.
 use mathlib.Core.Path.{_≡_, refl, sym, ap, _∙_}
 use mathlib.Core.Bool.{Bool, true, false, not, _&&_}
 use mathlib.Core.List.{List}
-use Prim.Native.Nat.{ℕ, zero, suc, _+_, _-_, _*_, _≤_, _<_}
+use Prim.Native.Nat.{ℕ, zero, suc, _≤_}
 use native.Mathlib.Omega.{arith}
 use borrow.Author.Tests.{ne-eqb, lt-ltb, le-leb}
 use lib.Dec.{T, eqb}
@@ -13,19 +13,19 @@ use Rattle.dynamics.specs.Previous.{isFirst, previousOf}
 use Rattle.dynamics.specs.Answer.{refusalOf}
 use Rattle.dynamics.specs.declared.previous.Previous.the-variants.{At}
 use Rattle.dynamics.specs.Leaves.{rising}
-use Rattle.dynamics.specs.Machine.{startRefusal, startedWords, isSound, tickRefusal}
+use Rattle.dynamics.specs.Machine.{decodeRefusal, tickRefusal}
 use Rattle.dynamics.specs.declared.call.Inputs.{Inputs}
 use Rattle.dynamics.proofs.Times.{previous-back}
-use Rattle.dynamics.proofs.Calls.{start-sound, tick-settings, tick-sized, tick-time}
+use Rattle.dynamics.proofs.Calls.{tick-settings, tick-sized, tick-time}
 use Rattle.window.specs.Geometry.{geometryOf}
-use Rattle.window.proofs.Sizes.{capacity-least, length-is}
+use Rattle.window.proofs.Sizes.{length-is}
 use Rattle.moving_average.specs.Ring.{Holds}
-use Rattle.moving_average.specs.Average.{pruned, written}
+use Rattle.moving_average.specs.Average.{pruned}
 use Rattle.moving_average.specs.MovingAverage.{stateOf, decodable, fresh, muNow, ringAt, placeAt, warningOf, startWord, latch, stepOf, afterOf, machineFor, machine}
 use Rattle.moving_average.specs.declared.MovingAverage.{MovingAverage}
 use Rattle.moving_average.specs.declared.store.Step.{Step}
 use Rattle.moving_average.proofs.Walks.{pruned-holds}
-use Rattle.moving_average.proofs.Stores.{place-count, written-length, written-front}
+use Rattle.moving_average.proofs.Stores.{Last, place-last, written-length, written-front}
 use Rattle.moving_average.proofs.Decoding.{holds}
 
 -- ---- an accepted tick
@@ -68,39 +68,34 @@ module _ (b : MovingAverage) (time : Float) (i : Inputs) (w : List ℕ) (ok : ti
   unfolding machineFor warningOf stateOf
   warning-exactly = turned (getD w 5 0) (placeAt (geometryOf (b .delta)) w (stateOf w) time .coalesced) ∙ ap (λ (n : ℕ). eqb (getD w 5 0) 0 && eqb n 1) (sym coalesced-word)
 
-  -- what it leaves is sound: the previous time is this tick's, and head and count lie within the capacity
-  previous-after : T (fits binary64 time) → stateOf left .previous ≡ At time
+  -- what it leaves decodes: the previous time is this tick's, head and count are the step's, within the capacity
+  pub previous-after : T (fits binary64 time) → stateOf left .previous ≡ At time
   unfolding machineFor afterOf stepOf stateOf
   previous-after f = ap previousOf (written-front w step ring-holds 2 (omega arith)) ∙ previous-back time f
 
-  head-after : stateOf left .head < geometryOf (b .delta) .capacity
-  unfolding machineFor afterOf stepOf stateOf ringAt pruned
-  head-after = rw (written-front w step ring-holds 3 (omega arith)) (ring-holds .stands .first)
+  pub head-after : stateOf left .head ≡ step .ring .head
+  unfolding machineFor afterOf stateOf
+  head-after = written-front w step ring-holds 3 (omega arith)
 
-  count-after : stateOf left .count ≤ geometryOf (b .delta) .capacity
-  unfolding machineFor afterOf stepOf stateOf ringAt placeAt pruned
-  count-after = rw (written-front w step ring-holds 4 (omega arith)) (place-count w (step .ring) _ time (ring-holds .stands))
+  pub count-after : stateOf left .count ≡ step .place .count
+  unfolding machineFor afterOf stateOf
+  count-after = written-front w step ring-holds 4 (omega arith)
 
-  decodes-after : T (fits binary64 time) → machine b .sound left ≡ true
-  unfolding machineFor decodable
-  decodes-after f = rw (previous-after f, tick-time (machine b) time i w ok, lt-ltb _ _ head-after, le-leb _ _ count-after)
+  place-fits : Last (step .ring) (step .place)
+  unfolding stepOf placeAt
+  place-fits = place-last w (step .ring) _ time (ring-holds .stands)
 
-  pub tick-sound : T (fits binary64 time) → isSound (machine b) left ≡ true
-  unfolding isSound refusalOf
-  tick-sound f = rw (tick-settings (machine b) time i w ok, tick-length, tick-sized (machine b) time i w ok, decodes-after f)
+  pub decodes-after : T (fits binary64 time) → machine b .decodes left ≡ true
+  unfolding machineFor decodable stepOf ringAt pruned
+  decodes-after f =
+      let few : step .place .count ≤ geometryOf (b .delta) .capacity = omega (arith, place-fits .last, place-fits .room) in
+      rw (previous-after f, tick-time (machine b) time i w ok, head-after, count-after, lt-ltb _ _ (ring-holds .stands .first), le-leb _ _ few)
+
+  pub left-decodes : T (fits binary64 time) → decodeRefusal (machine b) left ≡ 0
+  unfolding decodeRefusal refusalOf
+  left-decodes f = rw (tick-settings (machine b) time i w ok, tick-length, tick-sized (machine b) time i w ok, decodes-after f)
 
 -- ---- a start
 pub fresh-length : (b : MovingAverage) → length (machine b .fresh) ≡ machine b .size
 unfolding machineFor fresh
 fresh-length b = simp length-replicate (omega (arith, length-is (b .delta)))
-
-fresh-decodes : (b : MovingAverage) → machine b .sound (machine b .fresh) ≡ true
-unfolding machineFor fresh decodable stateOf previousOf
-fresh-decodes b =
-    let cap = geometryOf (b .delta) .capacity in
-    let three : 3 + 2 * cap ≡ suc (suc (suc (2 * cap))) = omega arith in
-    rw (three, lt-ltb 0 cap (omega (arith, capacity-least (b .delta))), le-leb 0 cap (omega arith))
-
--- a fresh start is sound
-pub fresh-sound : (b : MovingAverage) (w : List ℕ) → startRefusal (machine b) w ≡ 0 → isSound (machine b) (startedWords (machine b) w) ≡ true
-fresh-sound b w z = start-sound (machine b) w (fresh-length b) (fresh-decodes b) z

@@ -2,7 +2,7 @@
 use mathlib.Core.Path.{_≡_, sym, ap, _∙_}
 use mathlib.Core.Bool.{Bool}
 use mathlib.Core.List.{List}
-use Prim.Native.Nat.{ℕ, _≤_}
+use Prim.Native.Nat.{ℕ, _≤_, _<_}
 use native.Mathlib.Omega.{arith}
 use lib.ListN.{getD}
 use lib.Ieee.{Float}
@@ -29,7 +29,7 @@ use Rattle.moving_average.specs.declared.state.State.{State}
 use Rattle.moving_average.specs.declared.state.Decoded.{Decoded}
 use Rattle.moving_average.specs.declared.state.Decoded.the-variants as variant
 use Rattle.moving_average.proofs.Walks.{pruned-holds}
-use Rattle.moving_average.proofs.Stores.{place-within}
+use Rattle.moving_average.proofs.Stores.{place-last}
 use Rattle.moving_average.proofs.Decoding.{decoded, holds}
 
 -- ---- an update's step: the ring pruned, the point's place in it, the words written
@@ -51,7 +51,7 @@ module _ (g : RingGeometry) (w : List ℕ) (s : State) (t : Float) {all : Ring} 
       is-place = rw is-ring at placed
 
       pub place-fits : place .position ≤ ring .capacity
-      place-fits = let inside : place .position ≤ ring .count = rw placed (place-within w ring (g .resolution) t) in omega (arith, inside, ring-holds .stands .counted)
+      place-fits = let room : place .position < ring .capacity = rw placed (place-last w ring (g .resolution) t (ring-holds .stands) .room) in omega (arith, room)
 
       module _ {warning : Bool} (warned : warning ≡ rising (place .coalesced) (s .coalesced)) where
         is-warning : warning ≡ warningOf g w s t

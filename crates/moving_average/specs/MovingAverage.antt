@@ -1,4 +1,5 @@
 -- `MovingAverage` over a region. Definitions only.
+use mathlib.Core.Path.{_≡_}
 use mathlib.Core.Bool.{Bool, false, _&&_, cond}
 use mathlib.Core.List.{List, _∷_}
 use Prim.Native.Nat.{ℕ, _+_, _*_}
@@ -11,12 +12,14 @@ use Rattle.reals.specs.Arithmetic.{_⊖_, _⊘_}
 use Rattle.dynamics.specs.Previous.{unset, previousOf, soundPrevious, isFirst, gap}
 use Rattle.dynamics.specs.Leaves.{accumulated, rising}
 use Rattle.dynamics.specs.Answer.{realOutput}
-use Rattle.dynamics.specs.Machine.{Machine, Reading}
+use Rattle.dynamics.specs.Machine.{Machine, decodeRefusal, Reading}
 use Rattle.dynamics.specs.Stepped.{openedAs}
 use Rattle.dynamics.specs.declared.previous.Previous.the-variants.{At}
 use Rattle.window.specs.Geometry.{geometryOf}
 use Rattle.window.specs.Mean.{divisor}
+use Rattle.window.specs.Order.{Ordered, isOrdered}
 use Rattle.window.specs.declared.ring.RingGeometry.{RingGeometry}
+use Rattle.moving_average.specs.Ring.{timeAt}
 use Rattle.moving_average.specs.Average.{muAt, pruned, placeOf, written}
 use Rattle.moving_average.specs.declared.MovingAverage.{MovingAverage}
 use Rattle.moving_average.specs.declared.ring.Ring.{Ring}
@@ -45,6 +48,10 @@ ringOf s capacity = record { capacity = capacity; head = s .head; count = s .cou
 -- the previous time is unset or finite; head below the capacity, count not above it
 unfoldable pub decodable : State → ℕ → Bool
 decodable s capacity = (soundPrevious (s .previous) && ltb (s .head) capacity) && leb (s .count) capacity
+
+-- the times of the ring's points are in order, as a yes or no
+unfoldable pub inOrder : List ℕ → State → ℕ → Bool
+inOrder w s capacity = isOrdered (timeAt w (ringOf s capacity)) (s .count) (s .previous)
 
 -- a fresh region: previous time unset, the rest zero
 unfoldable pub fresh : RingGeometry → List ℕ
@@ -104,7 +111,7 @@ machineFor accepted g = record {
   size = g .length;
   fresh = fresh g;
   decodes = λ w. decodable (stateOf w) (g .capacity);
-  sound = λ w. decodable (stateOf w) (g .capacity);
+  sound = λ w. decodable (stateOf w) (g .capacity) && inOrder w (stateOf w) (g .capacity);
   previous = λ w. stateOf w .previous;
   output = λ w t i. realOutput (outputOf g w (stateOf w) t (muNow (stateOf w) t (realOf (i .first))));
   warns = λ w t i. warningOf g w (stateOf w) t;
@@ -114,6 +121,14 @@ machineFor accepted g = record {
 -- delta is finite
 abbrev pub machine : MovingAverage → Machine
 machine b = machineFor (finite (b .delta)) (geometryOf (b .delta))
+
+-- what "sound" means (request 2 of document 02): no refusal of decoding applies, and the times of the ring's points are in order
+abbrev pub PointsOrdered : MovingAverage → List ℕ → Type 0
+PointsOrdered b w = Ordered (timeAt w (ringOf (stateOf w) (geometryOf (b .delta) .capacity))) (stateOf w .count) (stateOf w .previous)
+
+pub record Sound (b : MovingAverage) (w : List ℕ) : Type 0 where
+  pub decodes : decodeRefusal (machine b) w ≡ 0
+  pub ordered : PointsOrdered b w
 
 -- ---- a region taken apart, by the refusal number of the call; the ring stays in the region
 

@@ -26,12 +26,19 @@ pub record Holds (r : List ℕ) (g : Ring) : Type 0 where
 unfoldable pub slotOf : Ring → ℕ → ℕ
 slotOf g n = (g .head + n) % g .capacity
 
--- its words: all ring times, then all ring integrals, past the first six words
+-- a slot's words: all ring times, then all ring integrals, past the first six words
+abbrev pub timeOf : ℕ → ℕ
+timeOf s = 6 + s
+
+abbrev pub muOf : ℕ → ℕ → ℕ
+muOf capacity s = 6 + capacity + s
+
+-- a position's words are its slot's
 unfoldable pub timePlace : Ring → ℕ → ℕ
-timePlace g n = 6 + slotOf g n
+timePlace g n = timeOf (slotOf g n)
 
 unfoldable pub muPlace : Ring → ℕ → ℕ
-muPlace g n = 6 + g .capacity + slotOf g n
+muPlace g n = muOf (g .capacity) (slotOf g n)
 
 -- ---- the points by position
 
@@ -40,6 +47,10 @@ timeWord r g n = getD r (timePlace g n) 0
 
 unfoldable pub timeAt : List ℕ → Ring → ℕ → Float
 timeAt r g n = realOf (timeWord r g n)
+
+-- the time in a slot, whatever its position
+unfoldable pub slotTime : List ℕ → ℕ → Float
+slotTime r s = realOf (getD r (timeOf s) 0)
 
 unfoldable pub pointAt : List ℕ → Ring → ℕ → Point
 pointAt r g n = record { time = timeAt r g n; mu = realOf (getD r (muPlace g n) 0) }

@@ -1,5 +1,6 @@
 // `MovingAverage` of CDL.Reals: the mean of its input over the last delta seconds, from a ring of points in a lent region.
 mod average;
+mod order;
 mod ring;
 mod state;
 mod store;
@@ -20,12 +21,14 @@ use dynamics::silent;
 use dynamics::tick_answer;
 use dynamics::time_refusal;
 use dynamics::warning_answer;
+use order::is_ordered;
 use reals::is_finite;
 use reals::real_of;
 pub use state::Decoded;
 pub use state::State;
 use state::decodes;
 pub use state::number_of;
+use state::ring_of;
 use state::state_of;
 use window::RingGeometry;
 use window::geometry;
@@ -67,7 +70,14 @@ pub fn decode(settings: MovingAverage, region: &[u64]) -> Decoded
     ensures { λ r. ⌜ r ≡ opened (decodeRefusal (machine settings) (now (region .entry))) (now (region .entry)) ⌝ }
     ensures { λ r. ⌜ reads r ≡ decodeAnswer (machine settings) stateOf zeros (now (region .entry)) ⌝ }
 {
-    let shape = geometry(settings.delta);
+    taken_apart(settings, geometry(settings.delta), region)
+}
+
+// The same where the ring's geometry is known.
+fn taken_apart(settings: MovingAverage, shape: RingGeometry, region: &[u64]) -> Decoded
+    requires { ⌜ shape ≡ geometryOf (settings .delta) ⌝ }
+    ensures { λ r. ⌜ r ≡ opened (decodeRefusal (machine settings) (now (region .entry))) (now (region .entry)) ⌝ }
+{
     let n = form_refusal(is_finite(settings.delta), region.len() == shape.length);
     if n != 0 {
         return Decoded::Refused(n);
@@ -79,11 +89,16 @@ pub fn decode(settings: MovingAverage, region: &[u64]) -> Decoded
     Decoded::Refused(6)
 }
 
-// Whether a region decodes.
+// Whether a region decodes and the times of its ring are in order.
 pub fn sound(settings: MovingAverage, region: &[u64]) -> bool
     ensures { λ r. ⌜ r ≡ isSound (machine settings) (now (region .entry)) ⌝ }
 {
-    number_of(decode(settings, region)) == 0
+    let shape = geometry(settings.delta);
+    let Decoded::State(s) = taken_apart(settings, shape, region) else {
+        return false;
+    };
+    let previous = s.previous;
+    is_ordered(region, ring_of(s, shape.capacity), previous)
 }
 
 // A region taken apart for a tick at this time: each test once, in the table's order.

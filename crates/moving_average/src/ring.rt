@@ -2,8 +2,9 @@
 use reals::real_of;
 use window::Point;
 ghost use mathlib.Core.Path.{_≡_};
-ghost use Prim.Native.Nat.{_≤_};
-ghost use Rattle.moving_average.specs.Ring.{Stands, Holds, slotOf, timePlace, muPlace, timeWord, timeAt, pointAt};
+ghost use Prim.Native.Nat.{_<_, _≤_};
+ghost use lib.ListN.{length};
+ghost use Rattle.moving_average.specs.Ring.{Stands, Holds, slotOf, timeOf, timePlace, muPlace, timeWord, timeAt, slotTime, pointAt};
 
 // Where the ring stands in its region: the oldest point's slot, and how many points there are.
 pub struct Ring {
@@ -24,7 +25,7 @@ pub(crate) fn slot(ring: Ring, n: usize) -> usize
     s - ring.capacity
 }
 
-// The words of position n. These two functions, and their two definitions, are all that knows the layout.
+// The words of position n. These two functions and `slot_time`, and their definitions, are all that knows the layout.
 pub(crate) fn time_place(ring: Ring, n: usize) -> usize
     requires { ⌜ Stands ring × (n ≤ ring .capacity) ⌝ }
     ensures { λ r. ⌜ r ≡ timePlace ring n ⌝ }
@@ -52,6 +53,14 @@ pub(crate) fn time_at(region: &[u64], ring: Ring, n: usize) -> f64
     ensures { λ r. ⌜ r ≡ timeAt (now (region .entry)) ring n ⌝ }
 {
     real_of(time_word(region, ring, n))
+}
+
+// The time in a slot, whatever its position.
+pub(crate) fn slot_time(region: &[u64], s: usize) -> f64
+    requires { ⌜ timeOf s < length (now region) ⌝ }
+    ensures { λ r. ⌜ r ≡ slotTime (now (region .entry)) s ⌝ }
+{
+    real_of(region[6 + s])
 }
 
 pub(crate) fn point_at(region: &[u64], ring: Ring, n: usize) -> Point

@@ -9,16 +9,19 @@ use borrow.Author.Tests.{ne-eqb}
 use lib.Dec.{T}
 use lib.Ieee.{binary64, fits, ofBits}
 use Rattle.reals.proofs.Words.{real-word, flag-back}
-use Rattle.dynamics.specs.Previous.{previousOf, wordOfPrevious}
+use Rattle.dynamics.specs.Previous.{previousOf, wordOfPrevious, soundPrevious}
 use Rattle.dynamics.specs.Region.{stored}
 use Rattle.dynamics.specs.declared.previous.Previous.the-variants.{Unset}
+use Rattle.dynamics.specs.Sound.{StaysSound}
 use Rattle.dynamics.proofs.Opening.{Enum}
 use Rattle.dynamics.proofs.Steps.{Opens}
+use Rattle.dynamics.proofs.Steps as steps
+use Rattle.controller.specs.Recurrence.{stateAfter, nextState}
 use Rattle.controller.specs.declared.config.ControllerType.{ControllerType}
 use Rattle.controller.specs.declared.config.ControllerType.the-variants.{P, Pi, Pd, Pid}
 use Rattle.controller.specs.declared.config.ControllerConfig.{ControllerConfig}
 use Rattle.controller.specs.declared.recurrence.State.{State}
-use Rattle.pid.specs.Pid.{stateLength, stateOf, wordsOf, initial, block, zeros, reads}
+use Rattle.pid.specs.Pid.{stateLength, stateOf, wordsOf, initial, block, machine, zeros, reads}
 use Rattle.pid.specs.declared.state.Decoded.{Decoded}
 use Rattle.pid.specs.declared.state.Decoded.the-variants.{Refused}
 use Rattle.pid.specs.declared.state.Decoded.the-variants as variant
@@ -79,6 +82,18 @@ controller reset = record {
   counted = λ b s. counted (b .«controller_type») reset s;
   fresh-unset = λ b. fresh-unset (b .«controller_type») reset b;
 }
+
+-- a fresh start is sound, and each call keeps a sound region sound
+time-read : (t : ControllerType) (reset : Bool) (s : State) → soundPrevious (previousOf (wordOfPrevious (s .previous))) ≡ true
+    → soundPrevious (stateOf t reset (wordsOf t reset s) .previous) ≡ true
+unfolding wordsOf stateOf
+time-read P reset s e = refl
+time-read Pi reset s e = e
+time-read Pd reset s e = e
+time-read Pid reset s e = e
+
+pub stays-sound : (reset : Bool) (b : ControllerConfig) → StaysSound (machine reset b)
+stays-sound reset b = steps.stays-sound (controller reset) b (λ s time i e. time-read (b .«controller_type») reset _ (unfold nextState stateAfter in e))
 
 -- no words are stored by doing nothing
 pub none-stored : (w : List ℕ) → w ≡ stored w []

@@ -2,16 +2,18 @@
 use mathlib.Core.Path.{_≡_, refl, ap, _∙_}
 use mathlib.Core.Bool.{true}
 use mathlib.Core.List.{List, [], _∷_, _++_}
-use Prim.Native.Nat.{ℕ}
+use Prim.Native.Nat.{ℕ, zero, suc}
 use Rattle.reals.specs.Words.{realOf}
 use Rattle.reals.proofs.Words.{real-fits}
-use Rattle.dynamics.specs.Machine.{Machine, Tick, Call, updates, ticks, Seen, answerTo, wordsAfter, run, leftAfter}
+use Rattle.dynamics.specs.Answer.{accept}
+use Rattle.dynamics.specs.Machine.{Machine, isSound, Tick, Call, updates, ticks, Seen, answerTo, wordsAfter, run, leftAfter}
 use Rattle.dynamics.specs.History.{wiped, retold, grownThrough, Wiping}
 use Rattle.blocks.specs.Block.{machineOf}
 use Rattle.blocks.specs.Wiping.{wipeable, accountOf, SettingsF64}
 use Rattle.blocks.specs.declared.block.Block.{Block}
 use Rattle.blocks.proofs.Wiping.{told, read-told}
-use Rattle.runs.specs.Run.{asked, answerInWords, ranWords, ranAnswers}
+use Rattle.blocks.proofs.Sounds.{stays-sound}
+use Rattle.runs.specs.Run.{asked, answerInWords, ranWords, ranAnswers, runRefusal, ranRegion}
 
 -- four words as a tick: a real that a word means is an f64
 abbrev tickBy : (time first second third : ℕ) → Tick
@@ -67,3 +69,14 @@ run-told b wipes f64 w k p l =
       leaves = ran .leaves ∙ read-told b wipes f64 w k p (callsIn l) .words;
       says = ran .says ∙ ap answersIn (told b wipes f64 w k p (callsIn l));
     }
+
+-- and a run keeps a sound region sound, a refused one too
+pub run-sound : (b : Block) (l w answers : List ℕ) → isSound (machineOf b) w ≡ true → isSound (machineOf b) (ranRegion (machineOf b) l w answers) ≡ true
+run-sound b l w answers s = go (runRefusal (machineOf b) l w answers)
+  where
+    ran : isSound (machineOf b) (ranWords (machineOf b) w (asked l)) ≡ true
+    ran = rw (ran-is-run (machineOf b) w l .leaves) (stays-sound b .kept-by-all w (callsIn l) s)
+
+    go : (n : ℕ) → isSound (machineOf b) (accept n (ranWords (machineOf b) w (asked l)) w) ≡ true
+    go zero = unfold accept in ran
+    go (suc n) = unfold accept in s

@@ -11,6 +11,7 @@ pub mod Results
 pub mod Single
 pub mod Unfed
 pub mod Runs
+pub mod Sounds
 pub mod Wiping
 pub mod TwoRows
 pub mod Seventeen

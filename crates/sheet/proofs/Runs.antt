@@ -17,7 +17,7 @@ use Rattle.sheet.specs.declared.row.Row.{Row}
 use Rattle.sheet.proofs.Single.{fed-there, tick-singly}
 
 -- the words at a row's place are its stretch
-stretch-at : (n : ℕ) (p : Placed) (ps : List Placed) → At n p ps → stretchOf n ps ≡ p .words
+pub stretch-at : (n : ℕ) (p : Placed) (ps : List Placed) → At n p ps → stretchOf n ps ≡ p .words
 unfolding At stretchOf
 stretch-at zero p [] a = absurd a
 stretch-at (suc n) p [] a = absurd a

@@ -1,12 +1,13 @@
 -- What "a sheet equals its blocks run singly" says. Definitions only.
 use Prim.Native.Nat.{ℕ, zero, suc, _*_, _<_}
 use mathlib.Core.Path.{_≡_}
+use mathlib.Core.Bool.{true}
 use mathlib.Core.List.{List, [], _∷_, _++_, map}
 use lib.Dec.{T}
 use lib.ListN.{take, drop}
 use lib.Ieee.{Float, binary64, fits}
 use Rattle.dynamics.specs.Answer.{accept}
-use Rattle.dynamics.specs.Machine.{Machine, startRefusal, tickRefusal, startedWords, emitAnswer, updatedWords, Call, ticks, Seen, run, leftAfter}
+use Rattle.dynamics.specs.Machine.{Machine, startRefusal, tickRefusal, startedWords, isSound, emitAnswer, updatedWords, Call, ticks, Seen, run, leftAfter}
 use Rattle.dynamics.specs.Machine as call
 use Rattle.dynamics.specs.declared.call.Inputs.{Inputs}
 use Rattle.blocks.specs.Block.{machineOf, inputsOf, answerWords}
@@ -107,6 +108,10 @@ module _ (rs : List Row) (space ws : List ℕ) (n : ℕ) (p : Placed) (ks : List
   pub record RunsSingly : Type 0 where
     pub shows : seenOf rs space n ws ks ≡ map (shownAs (p .row .block)) (run (machineOf (p .row .block)) (p .words) calls)
     pub leaves : stretchOf n (placed rs (sheetAfter rs space ws ks)) ≡ leftAfter (machineOf (p .row .block)) (p .words) calls
+
+-- the stretch of row n, which has this block, is sound
+abbrev pub RowSound : List Row → ℕ → Block → List ℕ → Type 0
+RowSound rs n b ws = isSound (machineOf b) (stretchOf n (placed rs ws)) ≡ true
 
 -- ---- the row at fault
 -- the number that a row's block, run singly on its own stretch, gives for a start and for a tick

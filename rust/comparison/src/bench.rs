@@ -2,6 +2,7 @@
 pub mod driver;
 pub mod published_sheet;
 pub mod sheet;
+pub mod sound;
 
 use crate::inputs::bench_controller;
 use crate::oracle::{Oracle, values};

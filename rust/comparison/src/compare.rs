@@ -1,10 +1,12 @@
 //! Compares calls with the Rust, call by call, on generated settings, regions and ticks.
 //!
-//! The Rust refuses nothing: which number is due is document 01's, by the model. An accepted call
-//! must answer and write what the Rust does; a refused one must answer zeros and write nothing.
+//! The Rust refuses nothing: which number is due is document 01's, by the model, and so is whether a
+//! region is sound. An accepted call must answer and write what the Rust does, and leave a sound region
+//! sound; a refused one must answer zeros and write nothing.
 //! The inputs depend on the seed alone, not on the calls that are compared.
-use crate::effects::{effects, faults};
+use crate::effects::{decoded, effects, faults};
 use crate::inputs::{self, Rng};
+use crate::model::leaves::UNSET;
 use crate::oracle::Oracle;
 use crate::tally::{Class, Tally};
 use crate::{Answer, Calls, Kind, TickWords, Update, hex, model};
@@ -39,6 +41,7 @@ fn run(subject: &Calls, kind: Kind, r: &mut Rng, tally: &mut Tally) {
         oracle: (refused == 0).then(|| Oracle::new(kind, &settings)),
         region: inputs::wide::region(r, kind, &settings),
         settings,
+        is_sound: false,
         time: 0,
         inputs: [0; 3],
         tally,
@@ -75,6 +78,8 @@ struct Run<'a> {
     /// None if the settings are refused.
     oracle: Option<Oracle>,
     region: Vec<u64>,
+    /// Whether the region is sound, by the model.
+    is_sound: bool,
     time: u64,
     inputs: [u64; 3],
     tally: &'a mut Tally,
@@ -147,6 +152,8 @@ impl Run<'_> {
         self.expect("start", got, due);
         self.expect_words("start", &mine, &theirs);
         self.region = theirs;
+        self.is_sound = due == 0;
+        self.sound();
     }
 
     /// Puts the previous time so far back that the gap to a large time is infinite.
@@ -157,15 +164,46 @@ impl Run<'_> {
         }
     }
 
-    /// Sound and decoding are document 01's alone: the Rust has neither.
-    fn decode(&mut self) {
+    /// Sound is ours, as decoding: the Rust has neither. A region that must be sound by what came before it is sound.
+    fn sound(&mut self) {
         let (kind, s, w) = (self.kind, &self.settings, &self.region);
-        let sound = (self.subject.sound)(kind, s, w);
+        let got = (self.subject.sound)(kind, s, w);
+        let must = self.is_sound;
+        self.is_sound = model::sound(kind, s, w);
+        self.expect("sound", got, must || self.is_sound);
+        if let Some(in_order) = self.validated() {
+            self.tally.see(Class::Validated(in_order));
+            self.expect("sound, by the published validator", got, in_order);
+        }
+    }
+
+    /// But the Rust has a validator of states that looks at the times of a ring too: what it says of those, in a region that decodes
+    /// with a previous time.
+    fn validated(&self) -> Option<bool> {
+        let (kind, s, w) = (self.kind, &self.settings, &self.region);
+        let decodes = kind == Kind::MovingAverage && model::refusal(kind, s, w, None) == 0;
+        let oracle = self.oracle.as_ref()?;
+        (decodes && w[2] != UNSET).then(|| oracle.times_in_order(w))?
+    }
+
+    fn decode(&mut self) {
+        self.sound();
+        let (kind, s, w) = (self.kind, &self.settings, &self.region);
         let got = (self.subject.decode)(kind, s, w);
         let due = model::decode(kind, s, w);
-        self.tally.see(Class::Decoded(due.refusal));
-        self.expect("sound", sound, due.refusal == 0);
+        self.tally.see_all(&decoded(kind, due.refusal, s, w));
         self.expect("decode", got, due);
+    }
+
+    /// After an accepted tick: a sound ring stays sound (document 02, request 2).
+    fn stays_sound(&mut self) {
+        let was_sound = self.is_sound;
+        self.sound();
+        self.tally.see(match (was_sound, self.is_sound) {
+            (true, _) => Class::KeptSound,
+            (false, true) => Class::Mended,
+            (false, false) => Class::StaysUnsound,
+        });
     }
 
     /// The number that is due at this tick.
@@ -222,6 +260,9 @@ impl Run<'_> {
         self.expect_call("update", self.subject.update, due, &theirs);
         self.expect_call("tick", self.subject.tick, ticked, &theirs);
         self.region = theirs;
+        if refused == 0 && self.kind == Kind::MovingAverage {
+            self.stays_sound();
+        }
         ticked
     }
 

@@ -3,6 +3,7 @@ use crate::inputs::MINUS_ZERO;
 use crate::lengths::Off;
 use crate::model::leaves::UNSET;
 use crate::ring_classes;
+use crate::sound_classes;
 use crate::tally::{Class, Word, met};
 use crate::{Kind, model};
 
@@ -53,6 +54,16 @@ pub fn faults(kind: Kind, refused: u64, s: &[u64], region: &[u64]) -> Vec<Class>
         }
         _ => vec![],
     }
+}
+
+/// The classes of a region that is taken apart with this refusal.
+pub fn decoded(kind: Kind, refused: u64, s: &[u64], region: &[u64]) -> Vec<Class> {
+    let mut classes = vec![Class::Decoded(refused)];
+    if kind == Kind::MovingAverage && refused == 0 {
+        let met = sound_classes::of(s, region);
+        classes.extend(met.into_iter().map(Class::Sound));
+    }
+    classes
 }
 
 const ZERO: u64 = 0;

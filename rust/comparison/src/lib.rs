@@ -20,6 +20,7 @@ pub mod sessions;
 pub mod sheet;
 pub mod sheets;
 pub mod soak;
+pub mod sound_classes;
 pub mod stored;
 pub mod tally;
 

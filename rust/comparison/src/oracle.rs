@@ -12,6 +12,19 @@ pub struct Oracle {
     block: Box<dyn Block>,
 }
 
+/// Why the published validator turns a moving average's region down, when it looks at the times of its points.
+const OF_THE_TIMES: [&str; 2] = [
+    "history time is not finite",
+    "history times must be ordered and not later than model time",
+];
+
+/// And when it has passed them.
+const BEHIND_THE_TIMES: [&str; 3] = [
+    "oldest history time precedes the start time",
+    "history no longer covers the window start",
+    "last history time differs from previous tick time",
+];
+
 /// Counts the warnings.
 #[derive(Default)]
 struct Warned(Cell<u64>);
@@ -75,6 +88,20 @@ impl Oracle {
             warning: warned.0.get() == 1,
             ..Answer::default()
         }
+    }
+
+    /// Whether the times of a moving average's points are in order, by the published validator right after a tick at the previous time.
+    /// None where it ends before it looks at them: at no points, or at another word that it would not take.
+    #[must_use]
+    pub fn times_in_order(&self, region: &[u64]) -> Option<bool> {
+        let previous = f64::from_bits(region[2]);
+        let Err(why) = self.block.validate_state(region, previous, previous) else {
+            return Some(true);
+        };
+        let is_one_of = |reasons: &[&str]| reasons.contains(&why.as_str());
+        is_one_of(&BEHIND_THE_TIMES)
+            .then_some(true)
+            .or(is_one_of(&OF_THE_TIMES).then_some(false))
     }
 
     /// Makes the reals that an update stored canonical: all NaNs count as one, and document 01

@@ -1,6 +1,19 @@
 //! A moving average's ring as its region's words have it. The generators and the classes read it so; the model does not.
 use crate::model::leaves::{UNSET, real_of};
 
+/// The place of the time at position n, whatever the head.
+#[must_use]
+pub fn time_place(region: &[u64], n: u64) -> usize {
+    let capacity = capacity(region);
+    6 + ((region[3] % capacity + n) % capacity) as usize
+}
+
+/// How many slots a region's ring has.
+#[must_use]
+pub fn capacity(region: &[u64]) -> u64 {
+    (region.len() as u64 - 6) / 2
+}
+
 /// The ring of a region, whose words may be any.
 #[derive(Clone, Copy)]
 pub struct Ring<'a> {
@@ -19,7 +32,7 @@ impl<'a> Ring<'a> {
 
     #[must_use]
     pub fn capacity(&self) -> u64 {
-        (self.region.len() as u64 - 6) / 2
+        capacity(self.region)
     }
 
     #[must_use]
@@ -57,8 +70,7 @@ impl<'a> Ring<'a> {
     /// The word of the time at position n.
     #[must_use]
     pub fn time_word(&self, n: u64) -> u64 {
-        let capacity = self.capacity();
-        self.region[6 + ((self.head() % capacity + n) % capacity) as usize]
+        self.region[time_place(self.region, n)]
     }
 
     #[must_use]

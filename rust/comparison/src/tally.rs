@@ -4,6 +4,7 @@ use std::fmt::Debug;
 
 use crate::lengths::Off;
 use crate::ring_classes::{self, RingClass};
+use crate::sound_classes::{self, SoundClass};
 use crate::{Answer, Kind};
 
 /// A sort of call, answer or effect.
@@ -36,6 +37,16 @@ pub enum Class {
     Overwritten,
     /// What a moving average's window and ring met.
     Ring(RingClass),
+    /// What decides whether a moving average's ring is sound.
+    Sound(SoundClass),
+    /// A ring of which the published validator says whether its times are in order.
+    Validated(bool),
+    /// An accepted tick on a sound ring, which it leaves sound.
+    KeptSound,
+    /// An accepted tick on a ring that is not sound, and is after it.
+    Mended,
+    /// An accepted tick on a ring that is not sound, and is not after it.
+    StaysUnsound,
     /// A gap from a set previous time that is infinite.
     InfiniteGap,
     /// A controller of this type, as its setting counts them.
@@ -207,6 +218,9 @@ pub fn expected_classes(kind: Kind) -> Vec<Class> {
         Kind::MovingAverage => {
             wanted.extend([Warning, Pruned, Appended, Overwritten]);
             wanted.extend(ring_classes::all().into_iter().map(Ring));
+            wanted.extend(sound_classes::all().into_iter().map(Sound));
+            wanted.extend([KeptSound, Mended, StaysUnsound]);
+            wanted.extend([true, false].map(Validated));
         }
         Kind::Pid | Kind::TrueFalseHold | Kind::LogicalVariablePulse => {}
         _ => wanted.push(Wiping),

@@ -1,9 +1,11 @@
 //! The model of document 01 with one slip put in, for each slip of the tables. The tests see the
-//! comparison with the Rust catch every one of the blocks', and that of sheets every one of theirs.
+//! comparison with the Rust catch every one of the blocks' and of sound's, and that of sheets every one
+//! of theirs.
 #![forbid(unsafe_code)]
 
 pub mod lists;
 mod sheet_table;
+mod sound_table;
 mod table;
 
 /// The slipped copies. A slip may leave a name unused.
@@ -13,6 +15,7 @@ mod slipped {
 }
 
 pub use sheet_table::SHEET_SLIPS;
+pub use sound_table::{REFUSING_SLIPS, SOUND_SLIPS};
 pub use table::{SLIPS, Slip};
 
 // what the copies name, as the model does
@@ -20,6 +23,10 @@ pub use comparison::{Answer, Calls, Decoded, Kind, TickWords, sheet};
 
 /// The calls of each slipped model, in the order of the table.
 pub const SLIPPED: [Calls; SLIPS.len()] = slipped::CALLS;
+
+/// Those of the model with each slip of sound, and of each model that refuses a ring for it.
+pub const SLIPPED_SOUND: [Calls; SOUND_SLIPS.len()] = slipped::SOUND_CALLS;
+pub const REFUSING: [Calls; REFUSING_SLIPS.len()] = slipped::REFUSING_CALLS;
 
 /// The sheet's calls of each model with a slip in its sheet.
 pub const SLIPPED_SHEETS: [sheet::SheetCalls; SHEET_SLIPS.len()] = slipped::SHEETS;

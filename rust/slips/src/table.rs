@@ -604,11 +604,11 @@ pub const SLIPS: [Slip; 92] = [
     ),
     // sound, decoding and runs
     slip(
-        "any ring is sound",
+        "a damaged ring is sound",
         "MovingAverage",
         "state.rs",
-        "refusal(kind, s, region, None) == 0",
-        "refusal(kind, s, region, None) % 6 == 0",
+        "    refusal(kind, s, region, None) == 0\n",
+        "    refusal(kind, s, region, None) == 6 || refusal(kind, s, region, None) == 0\n",
     ),
     slip(
         "a region with a bad word taken apart",

@@ -1,7 +1,7 @@
 //! The comparison with the Rust catches every slip, and finds nothing in the model without one.
 use comparison::compare::compare;
-use comparison::{Kind, model};
-use slips::{SLIPPED, SLIPS};
+use comparison::{Calls, Kind, model};
+use slips::{REFUSING, REFUSING_SLIPS, SLIPPED, SLIPPED_SOUND, SLIPS, SOUND_SLIPS, Slip};
 
 /// Runs of each block, and the seed of their inputs.
 const RUNS: u64 = 4000;
@@ -16,10 +16,18 @@ fn the_model_without_a_slip_differs_nowhere() {
     }
 }
 
+/// The slips of all tables but the sheet's, each with its calls.
+fn all() -> Vec<(&'static Slip, &'static Calls)> {
+    let blocks = SLIPS.iter().zip(&SLIPPED);
+    let sound = SOUND_SLIPS.iter().zip(&SLIPPED_SOUND);
+    let refusing = REFUSING_SLIPS.iter().zip(&REFUSING);
+    blocks.chain(sound).chain(refusing).collect()
+}
+
 #[test]
 fn every_slip_is_caught() {
     let mut missed = vec![];
-    for (slip, calls) in SLIPS.iter().zip(&SLIPPED) {
+    for (slip, calls) in all() {
         let kind = Kind::named(slip.block).expect("a block has this name");
         let tally = compare(calls, kind, RUNS, SEED);
         match tally.differences.first() {
@@ -27,6 +35,6 @@ fn every_slip_is_caught() {
             None => missed.push(slip.name),
         }
     }
-    println!("{} slips, {} missed", SLIPS.len(), missed.len());
+    println!("{} slips, {} missed", all().len(), missed.len());
     assert!(missed.is_empty(), "missed: {missed:?}");
 }

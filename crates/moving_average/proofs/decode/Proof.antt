@@ -1,28 +1,14 @@
--- `decode` opens a region by the number of decoding. Assumes nothing.
-use native.Mathlib.Omega.{arith}
-use Rattle.moving_average.proofs.Decoding.{decode-form, decode-then, decode-else}
+-- `decode` takes a region apart; what that says is document 01's number and values. Assumes nothing.
+use Rattle.dynamics.proofs.Opening.{decodes}
+use Rattle.moving_average.specs.MovingAverage.{stateOf, machine}
+use Rattle.moving_average.proofs.Decoding.{decoded}
 use borrow.Author.Needs.{needs}
 use Rattle.moving_average.proofs.decode.Statement.{statement}
 use Rattle.moving_average.proofs.decode.Tie as tie
 
 returns : tie.Need-returns
-returns c = let at-is-finite = c .before .before .before in
-    let at-args = at-is-finite .before .before .before in
-    decode-form (at-args .args .settings) _ (at-is-finite .before .geometry .ensures) (at-is-finite .is-finite .ensures) (c .before .form-refusal .ensures) (λ z. omega arith)
-
-returns-2 : tie.Need-returns-2
-returns-2 c = let at-state-of = c .before .before in
-    let at-form-refusal = at-state-of .before .before in
-    let at-is-finite = at-form-refusal .before .before in
-    let at-args = at-is-finite .before .before .before in
-    decode-then (at-args .args .settings) _ (at-is-finite .before .geometry .ensures) (at-is-finite .is-finite .ensures) (at-form-refusal .form-refusal .ensures) (omega arith) (at-state-of .state-of .ensures) (c .before .decodes .ensures) (c .if2 .taken)
-
-returns-3 : tie.Need-returns-3
-returns-3 c = let at-state-of = c .before .before in
-    let at-form-refusal = at-state-of .before .before in
-    let at-is-finite = at-form-refusal .before .before in
-    let at-args = at-is-finite .before .before .before in
-    decode-else (at-args .args .settings) _ (at-is-finite .before .geometry .ensures) (at-is-finite .is-finite .ensures) (at-form-refusal .form-refusal .ensures) (omega arith) (at-state-of .state-of .ensures) (c .before .decodes .ensures) (c .if2 .left)
+returns c = let at-args = c .before .before .before in
+    decodes decoded (machine (at-args .args .settings)) stateOf (at-args .args .region .now) (c .taken-apart .ensures)
 
 pub decode-spec : {M : Type 1} → statement M
-decode-spec = tie.close (tie.spec (λ c κs. search needs) (λ c κs. search needs) (λ c κs. search needs) returns (λ c κs. search needs) (λ c κs. search needs) returns-2 returns-3)
+decode-spec = tie.close (tie.spec (λ c κs. search needs) (λ c κs. search needs) returns)

@@ -1,13 +1,13 @@
 //! Long runs of the moving average from a fresh start: the calls that are compared and the Rust in
-//! step, the ring kept sound (document 02, request 2), and the halving search (request 7) finding
-//! the point that the walk finds.
+//! step, the ring kept sound by the model's word and the calls' own (document 02, request 2), and the
+//! halving search (request 7) finding the point that the walk finds.
 use crate::effects::ring_effects;
 use crate::inputs::{self, Rng};
 use crate::model::leaves::{is_finite, real_of};
 use crate::oracle::Oracle;
 use crate::ring::Ring;
 use crate::tally::{Class, Tally};
-use crate::{Answer, Calls, Kind, TickWords};
+use crate::{Answer, Calls, Kind, TickWords, model};
 
 const KIND: Kind = Kind::MovingAverage;
 
@@ -196,13 +196,10 @@ impl LongRun<'_> {
         Ring::of(&self.settings, &self.theirs).expect("a started region has one")
     }
 
-    /// Ring times finite, none below the one before, none above the previous time.
+    /// Of the Rust's words, which the calls have left too.
     fn is_sound(&self) -> bool {
-        let ring = self.ring();
-        let times: Vec<u64> = (0..ring.count()).map(|n| ring.time_word(n)).collect();
-        let ordered = times.windows(2).all(|p| real_of(p[0]) <= real_of(p[1]));
-        let bounded = |t: &u64| is_finite(*t) && real_of(*t) <= real_of(self.theirs[2]);
-        ordered && times.iter().all(bounded)
+        let (s, w) = (&self.settings, &self.theirs);
+        model::sound(KIND, s, w) && (self.subject.sound)(KIND, s, w)
     }
 
     /// The first point at or before which the window's start lies, found in both ways.

@@ -1,6 +1,7 @@
 //! Settings, ticks and regions from a generator with a fixed seed, made to reach the corners.
 mod reals;
 mod regions;
+mod rings;
 mod rng;
 mod settings;
 mod ticks;

@@ -1,11 +1,11 @@
 //! The generators of a comparison: those of the stored lists, but for a moving average windows of every size, rings whose
-//! points lie close, and times at which a rule turns.
+//! points lie close or that are sound but for one thing, and times at which a rule turns.
 use super::reals::{next_down, next_up, wild};
 use super::regions::{Points, region_with};
 use super::settings::spoiled;
-use super::{Rng, tame};
-use crate::Kind;
+use super::{Rng, rings, tame};
 use crate::ring::Ring;
+use crate::{Kind, model};
 
 /// Settings of which one in 60 has a number that is not finite.
 pub fn settings(r: &mut Rng, kind: Kind) -> Vec<u64> {
@@ -51,12 +51,17 @@ fn beside(r: &mut Rng, x: f64) -> f64 {
     r.pick(&[x, x, next_up(x), next_down(x)])
 }
 
-/// A region for the settings; half of the rings with points as close as they are kept apart.
+/// A region for the settings. Half of the rings have points as close as they are kept apart; a quarter is sound or has one thing
+/// wrong.
 pub fn region(r: &mut Rng, kind: Kind, s: &[u64]) -> Vec<u64> {
-    if kind == Kind::MovingAverage && r.one_in(2) {
-        region_with(r, kind, s, close_points)
-    } else {
-        super::region(r, kind, s)
+    let (refused, length) = model::state_length(kind, s);
+    if kind != Kind::MovingAverage || refused != 0 {
+        return super::region(r, kind, s);
+    }
+    match r.below(4) {
+        0 => super::region(r, kind, s),
+        1 => rings::region(r, length),
+        _ => region_with(r, kind, s, close_points),
     }
 }
 

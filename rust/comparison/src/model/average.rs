@@ -1,6 +1,6 @@
 //! Document 01's moving average and its ring.
 //! Words: integral, start time, previous time, head, count, coalesced, ring times, ring integrals.
-use super::leaves::{UNSET, accumulate, ceil, real_of, tick_dt, word_of};
+use super::leaves::{UNSET, accumulate, ceil, is_finite, real_of, tick_dt, word_of};
 
 /// The ring of one delta.
 pub(super) struct Ring {
@@ -51,6 +51,18 @@ impl Ring {
         let place = self.time_place(region, n);
         region[place] = word_of(time);
         region[place + self.capacity as usize] = word_of(integral);
+    }
+
+    /// Document 02, request 2: the times at positions below the count are finite, none is below the one before and none above the
+    /// previous time; while that is unset the count is 0.
+    pub(super) fn is_sound(&self, region: &[u64]) -> bool {
+        let (previous, count) = (region[2], region[4]);
+        let times: Vec<u64> = (0..count).map(|n| self.time(region, n)).collect();
+        let below = |a: u64, b: u64| real_of(a) < real_of(b);
+        times.iter().all(|t| is_finite(*t))
+            && times.windows(2).all(|pair| !below(pair[1], pair[0]))
+            && times.iter().all(|t| !below(previous, *t))
+            && (count == 0 || previous != UNSET)
     }
 
     /// Drops the first point while the second lies at or before the window's start.

@@ -1,5 +1,5 @@
-//! Document 01, rule by rule, on words. Written from the document; it shares no code with the
-//! ported Rust.
+//! Document 01, rule by rule, on words, and of document 02 what has come: rows that feed rows, sound
+//! rings, the pulse. Written from the documents; it shares no code with the ported Rust.
 mod average;
 pub mod controller;
 pub mod leaves;

@@ -1,12 +1,14 @@
-//! A region taken apart into the state record of document 01.
+//! A region taken apart into the state record of document 01, and whether it is sound.
+use super::average::Ring;
 use super::leaves::{real_of, word_of};
 use super::{controller, refusal};
 use crate::{Decoded, Kind};
 
-/// Sound is yes exactly when decoding is not refused.
+/// Sound is yes exactly when decoding is not refused; of a moving average the ring must be sound too.
 #[must_use]
 pub fn sound(kind: Kind, s: &[u64], region: &[u64]) -> bool {
     refusal(kind, s, region, None) == 0
+        && (kind != Kind::MovingAverage || Ring::of(s).is_sound(region))
 }
 
 /// The words of the state record, or the refusal and the record of zeros.

@@ -9,6 +9,7 @@ use lib.Dec.{eqb, ltb, leb}
 use lib.ListN.{length, set, replicate}
 use lib.Ieee.{Float, ofBits}
 use lib.Ieee.Scale.{finite}
+use Rattle.reals.proofs.Values.{both}
 use Rattle.dynamics.specs.Previous.{unset, previousOf, soundPrevious}
 use Rattle.dynamics.specs.Answer.{formRefusal, timeRefusal}
 use Rattle.dynamics.specs.Region.{Gives}
@@ -22,7 +23,6 @@ use Rattle.window.specs.Geometry.{geometryOf}
 use Rattle.window.specs.declared.ring.RingGeometry.{RingGeometry}
 use Rattle.window.specs.Order.{isOrdered}
 use Rattle.window.proofs.Sizes.{capacity-most, length-is}
-use Rattle.window.proofs.Orders.{and-both}
 use Rattle.moving_average.specs.Ring.{Holds, timeAt}
 use Rattle.moving_average.specs.MovingAverage.{stateOf, ringOf, decodable, inOrder, fresh, machineFor, machine, opened, zeros, reads}
 use Rattle.moving_average.specs.declared.MovingAverage.{MovingAverage}
@@ -123,8 +123,8 @@ module _ (b : MovingAverage) (w : List ℕ) {g : RingGeometry} (shaped : g ≡ g
 within : (s : State) (cap : ℕ) → decodable s cap ≡ true → (soundPrevious (s .previous) ≡ true) × (s .head < cap) × (s .count ≤ cap)
 unfolding decodable
 within s cap e =
-    let (two, counted) = and-both (soundPrevious (s .previous) && ltb (s .head) cap) (leb (s .count) cap) e in
-    let (time, first) = and-both (soundPrevious (s .previous)) (ltb (s .head) cap) two in
+    let (two, counted) = both (soundPrevious (s .previous) && ltb (s .head) cap) (leb (s .count) cap) e in
+    let (time, first) = both (soundPrevious (s .previous)) (ltb (s .head) cap) two in
     (time, ltb-true _ _ first, leb-true _ _ counted)
 
 module _ (b : MovingAverage) (w : List ℕ) (d : machine b .decodes w ≡ true) where

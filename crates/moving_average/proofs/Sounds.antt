@@ -9,6 +9,7 @@ use lib.Dec.{T, eqb}
 use lib.ListN.{getD}
 use lib.Ieee.{Float, binary64, fits}
 use Rattle.reals.specs.Words.{realOf}
+use Rattle.reals.proofs.Values.{both, both-pass}
 use Rattle.reals.proofs.Words.{real-word}
 use Rattle.dynamics.specs.Previous.{previousOf, soundPrevious, runsBack}
 use Rattle.dynamics.specs.declared.previous.Previous.{Previous}
@@ -20,7 +21,7 @@ use Rattle.dynamics.proofs.Sounds as sounds
 use Rattle.window.specs.Geometry.{geometryOf}
 use Rattle.window.specs.Order.{Ordered}
 use Rattle.window.proofs.Sizes.{capacity-least}
-use Rattle.window.proofs.Orders.{and-both, both-and, ordered-means, means-ordered, none-ordered, dropped-ordered, stored-ordered}
+use Rattle.window.proofs.Orders.{ordered-means, means-ordered, none-ordered, dropped-ordered, stored-ordered}
 use Rattle.moving_average.specs.Ring.{Holds, slotOf, timeOf, timePlace, timeWord, timeAt}
 use Rattle.moving_average.specs.Average.{pruned, written}
 use Rattle.moving_average.specs.MovingAverage.{stateOf, ringOf, decodable, inOrder, fresh, muNow, ringAt, placeAt, stepOf, afterOf, machineFor, machine, PointsOrdered, Sound}
@@ -37,20 +38,20 @@ use Rattle.moving_average.proofs.Rules.{fresh-length, tick-length, prev
 module _ (b : MovingAverage) (w : List ℕ) where
   pub sound-means : isSound (machine b) w ≡ true → Sound b w
   sound-means e =
-      let (d, o) = and-both (eqb (decodeRefusal (machine b) w) 0) _ (sym (sound-is b w) ∙ e) in
+      let (d, o) = both (eqb (decodeRefusal (machine b) w) 0) _ (sym (sound-is b w) ∙ e) in
       record { decodes = eqb-true _ _ d; ordered = ordered-means _ _ _ o }
 
   pub means-sound : Sound b w → isSound (machine b) w ≡ true
-  means-sound s = sound-is b w ∙ both-and (eq-eqb _ _ (s .decodes)) (means-ordered _ _ _ (s .ordered))
+  means-sound s = sound-is b w ∙ both-pass (eq-eqb _ _ (s .decodes)) (means-ordered _ _ _ (s .ordered))
 
   -- the same of the block's own test
   test-ordered : machine b .sound w ≡ true → PointsOrdered b w
   unfolding machineFor inOrder
-  test-ordered e = ordered-means _ _ _ (and-both (decodable (stateOf w) (geometryOf (b .delta) .capacity)) _ e .1)
+  test-ordered e = ordered-means _ _ _ (both (decodable (stateOf w) (geometryOf (b .delta) .capacity)) _ e .1)
 
   ordered-test : machine b .decodes w ≡ true → PointsOrdered b w → machine b .sound w ≡ true
   unfolding machineFor inOrder
-  ordered-test d o = both-and d (means-ordered _ _ _ o)
+  ordered-test d o = both-pass d (means-ordered _ _ _ o)
 
 -- ---- an accepted tick prunes and stores
 module _ (b : MovingAverage) (time : Float) (i : Inputs) (w : List ℕ) (ok : tickRefusal (machine b) time w ≡ 0) where

@@ -2,7 +2,7 @@
 use mathlib.Core.Path.{_≡_, refl, sym, ap, _∙_}
 use Prim.Native.Nat.{ℕ, zero, suc, _+_, _-_, _*_, _/_, _^_, _<_}
 use native.Mathlib.Nat.{mul-right-comm, eq-of-mul-eq-mul-right}
-use mathlib.Core.Bool.{Bool, true, false, cond}
+use mathlib.Core.Bool.{Bool, true, false, _&&_, cond, true≢false}
 use lib.Dec.{T}
 use lib.IntN.{ℤ}
 use lib.Ieee.{Float, fin, Format, prec, low, up, down, size, hid, top, fits, ofBits, toBits}
@@ -17,6 +17,14 @@ agree true true f g = refl
 agree true false f g = absurd (f tt)
 agree false true f g = absurd (g tt)
 agree false false f g = refl
+
+-- two tests that both pass
+pub both : (p q : Bool) → p && q ≡ true → (p ≡ true) × (q ≡ true)
+both true q e = (refl, e)
+both false q e = absurd (true≢false (sym e))
+
+pub both-pass : {p q : Bool} → p ≡ true → q ≡ true → p && q ≡ true
+both-pass e f = rw (e, f) refl
 
 -- equal fractions: x / p is a / c and so is y / q
 pub same-fraction : (x p y q a c : ℕ) → 0 < c → x * c ≡ a * p → y * c ≡ a * q → x * q ≡ y * p

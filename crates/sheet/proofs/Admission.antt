@@ -11,13 +11,13 @@ use lib.ListN.{length, take, drop, length-drop}
 use lib.Seq.{length-take-le}
 use lib.Ieee.{Float}
 use lib.Ieee.Scale.{finite}
+use Rattle.reals.proofs.Values.{both}
 use Rattle.dynamics.specs.Answer.{refusalOf, skipped}
 use Rattle.dynamics.specs.Machine.{sized, tickRefusal}
 use Rattle.blocks.specs.Block.{machineOf}
 use Rattle.sheet.specs.Rows.{wide, widthOf, Placed, placed, every}
 use Rattle.sheet.specs.Sheet.{settled, decodes, onTime}
 use Rattle.sheet.specs.declared.row.Row.{Row}
-use Rattle.sheet.proofs.Stretches.{both}
 use Rattle.sheet.proofs.Walks.{Above}
 
 -- ---- tests over a list

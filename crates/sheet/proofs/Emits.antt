@@ -10,6 +10,7 @@ use lib.Dec.{eqb, ltb, leb}
 use lib.ListN.{length, take, drop, getD}
 use lib.Seq.{drop-drop}
 use lib.Ieee.{Float}
+use Rattle.reals.proofs.Values.{both}
 use Rattle.dynamics.specs.Answer.{Outputs, silent, emitted, accept}
 use Rattle.dynamics.specs.Machine.{Machine, tickRefusal, emitAnswer}
 use Rattle.dynamics.specs.declared.call.Inputs.{Inputs}
@@ -21,7 +22,7 @@ use Rattle.sheet.specs.Sheet.{mostRows, inputWords, rowAnswers, inReach,
 use Rattle.sheet.specs.Walk.{endsAt, ownWords, Carried, carried, isNew, noted, movedTo, tickBy, emittedRow, turnedIn, turned, walked, putTwo}
 use Rattle.sheet.specs.declared.row.Row.{Row}
 use Rattle.sheet.specs.declared.walk.Phase.the-variants.{Emit}
-use Rattle.sheet.proofs.Stretches.{both, either, cut, up-to, take-two, length-two}
+use Rattle.sheet.proofs.Stretches.{either, cut, up-to, take-two, length-two}
 use Rattle.sheet.proofs.Feeding.{sees, allAnswers, none-answered, next-answered}
 use Rattle.sheet.proofs.Ends.{EndsAre, ends-stay}
 use Rattle.sheet.proofs.Walks.{midway, Above, above-of, new, old}

@@ -8,12 +8,13 @@ use borrow.Author.Tests.{lt-ltb, ltb-true, eq-eqb}
 use lib.Dec.{ltb, eqb}
 use lib.ListN.{length, take, set, getD, length-set}
 use lib.Seq.{take-set-le, getD-set-same, getD-set-other}
+use Rattle.reals.proofs.Values.{both}
 use Rattle.blocks.specs.declared.block.OutputWords.{OutputWords}
 use Rattle.sheet.specs.Rows.{wide}
 use Rattle.sheet.specs.Sheet.{mostRows, inputWords, rowAnswers}
 use Rattle.sheet.specs.Walk.{endsAt, ownWords, hasRoom, putTwo, putEnd}
 use Rattle.sheet.specs.declared.row.Row.{Row}
-use Rattle.sheet.proofs.Stretches.{both, either}
+use Rattle.sheet.proofs.Stretches.{either}
 
 -- the ends of these rows, of which the first is row n and its words begin at `at`
 unfoldable pub EndsAre : ℕ → List Row → ℕ → List ℕ → Type 0

@@ -11,13 +11,14 @@ use lib.ListN.{length, take, drop, getD, length-append, List·getD-append}
 use lib.Seq.{getD-take, getD-append-add}
 use lib.IntN.{pos}
 use lib.Ieee.{fin, ofBits, toBits, round}
+use Rattle.reals.proofs.Values.{both}
 use Rattle.reals.specs.Words.{nearest, realOf, wordOf, flagOf, wordOfFlag}
 use Rattle.blocks.specs.declared.block.Tick.{Tick}
 use Rattle.sheet.specs.Rows.{wide, placed, every, anyOf, joined}
 use Rattle.sheet.specs.Sheet.{inputWords, rowAnswers, names, inReach, allReach, namedWord, rowTick, Fed, feed, fedBelow, fed, answersOf}
 use Rattle.sheet.specs.Walk.{larger, tickBy}
 use Rattle.sheet.specs.declared.row.Row.{Row}
-use Rattle.sheet.proofs.Stretches.{both, either}
+use Rattle.sheet.proofs.Stretches.{either}
 
 -- ---- which columns name a word in row n
 -- by the row that an answer word belongs to

@@ -12,6 +12,7 @@ use lib.ListN.{length, take, drop, replicate, length-append}
 use lib.Seq.{take-at}
 use lib.Ieee.{Float}
 use lib.Ieee.Scale.{finite}
+use Rattle.reals.proofs.Values.{both}
 use Rattle.dynamics.specs.Answer.{refusalOf}
 use Rattle.dynamics.proofs.Accepted.{accepted}
 use Rattle.dynamics.proofs.Accepted as by
@@ -22,7 +23,7 @@ use Rattle.sheet.specs.Walk.{ownWords, Carried, carried, ready, refusedW
 use Rattle.sheet.specs.declared.row.Row.{Row}
 use Rattle.sheet.specs.declared.walk.Phase.the-variants.{Survey, Start, Emit, Update}
 use Rattle.sheet.specs.declared.walk.Walk.{Walk}
-use Rattle.sheet.proofs.Stretches.{both, either, behind}
+use Rattle.sheet.proofs.Stretches.{either, behind}
 use Rattle.sheet.proofs.Feeding.{all-reach-more, answered, any-fed, joined-fed}
 use Rattle.sheet.proofs.Ends.{EndsAre, ended, ended-long, ended-inputs, ends-are}
 use Rattle.sheet.proofs.Walks.{midway, Finds, as-found, passes-by, out-of-reach, unsettled, Misfits, missing, over-left, misfit, unharmed}

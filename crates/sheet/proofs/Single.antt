@@ -12,6 +12,7 @@ use lib.ListN.{length, take, drop, length-drop}
 use lib.Seq.{take-at, drop-at, take-all, length-take-le, drop-drop}
 use lib.Ieee.{Float}
 use lib.Ieee.Scale.{finite}
+use Rattle.reals.proofs.Values.{both}
 use Rattle.dynamics.specs.Previous.{runsBack}
 use Rattle.dynamics.specs.Answer.{refusalOf, formRefusal}
 use Rattle.dynamics.specs.Machine.{Machine, sized, startRefusal, tickRefusal, updateAnswer}
@@ -25,7 +26,7 @@ use Rattle.sheet.specs.Sheet.{rowAnswers, fewRows, inReach, allReach, se
 use Rattle.sheet.specs.Single.{At, nowHas, StartsSingly, TicksSingly, ownStart, ownNumber, Topmost}
 use Rattle.sheet.specs.declared.row.Row.{Row}
 use Rattle.sheet.specs.declared.row.SheetAnswer.{SheetAnswer}
-use Rattle.sheet.proofs.Stretches.{both, either}
+use Rattle.sheet.proofs.Stretches.{either}
 use Rattle.sheet.proofs.Feeding.{answered, each-fed, any-fed, joined-fed}
 use Rattle.sheet.proofs.Admission.{fitting, all-fit, gives-6, not-6, gives-7, gives-0, accepts, all-accept}
 

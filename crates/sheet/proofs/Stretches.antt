@@ -2,23 +2,20 @@
 use Prim.Native.Nat.{ℕ, suc, _+_, _-_, _*_, _≤_, _<_}
 use native.Mathlib.Omega.{arith}
 use mathlib.Core.Path.{_≡_, refl, sym, _∙_, ap}
-use mathlib.Core.Bool.{Bool, true, false, _&&_, true≢false}
+use mathlib.Core.Bool.{Bool, true, false, _&&_}
 use mathlib.Core.Logic.{_⊎_, inl, inr, ⊎-elim}
 use mathlib.Core.List.{List, [], _∷_, _++_, append-assoc}
 use borrow.Author.Tests.{leb-true, leb-false, le-leb, lt-leb, eqb-true, eqb-false, eq-eqb, ne-eqb}
 use lib.Dec.{eqb, leb}
 use lib.ListN.{length, take, drop, set, getD, length-append, length-set, length-drop}
 use lib.Seq.{take-at, drop-at, length-take-le, take-suc-set, take-take, take-add}
+use Rattle.reals.proofs.Values.{both}
 use Rattle.dynamics.specs.Region.{stored}
 use Rattle.sheet.specs.Sheet.{mostRows, inputWords, rowAnswers}
 use Rattle.sheet.specs.Walk.{ownWords, handedOut}
 use Rattle.sheet.specs.declared.walk.Walk.{Walk}
 
--- ---- a test that passes on a first and on the rest
-pub both : (a b : Bool) → (a && b) ≡ true → (a ≡ true) × (b ≡ true)
-both true b e = (refl, e)
-both false b e = absurd (true≢false (sym e))
-
+-- ---- a test passes or it does not
 pub either : (b : Bool) → (b ≡ true) ⊎ (b ≡ false)
 either true = inl refl
 either false = inr refl

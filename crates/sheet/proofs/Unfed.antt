@@ -5,12 +5,12 @@ use mathlib.Core.Bool.{true}
 use mathlib.Core.List.{List, [], _∷_, map}
 use lib.Dec.{ltb}
 use lib.ListN.{drop}
+use Rattle.reals.proofs.Values.{both}
 use Rattle.blocks.specs.declared.block.Tick.{Tick}
 use Rattle.sheet.specs.Rows.{wide, placed, every}
 use Rattle.sheet.specs.Sheet.{inputWords, inReach, allReach, rowTick, answersOf, warnsOf, leftOf, feed, fedBelow, fed, startNumber, tickNumber, tickSaid}
 use Rattle.sheet.specs.Unfed.{unfed, alone, AsIn01}
 use Rattle.sheet.specs.declared.row.Row.{Row}
-use Rattle.sheet.proofs.Stretches.{both}
 use Rattle.sheet.proofs.Feeding.{joined-map, any-map}
 
 -- each column names a word of the tick, wherever the row stands

@@ -9,6 +9,7 @@ use borrow.Author.Tests.{le-leb, lt-leb, eq-eqb, ne-eqb}
 use lib.Dec.{eqb, leb}
 use lib.ListN.{length}
 use lib.Ieee.{Float}
+use Rattle.reals.proofs.Values.{both}
 use Rattle.dynamics.proofs.Calls.{length-0, length-2}
 use Rattle.blocks.specs.Block.{machineOf}
 use Rattle.sheet.specs.Rows.{wide, widthOf, every, firstFailing}
@@ -18,7 +19,7 @@ use Rattle.sheet.specs.declared.row.Row.{Row}
 use Rattle.sheet.specs.declared.walk.Phase.{Phase}
 use Rattle.sheet.specs.declared.walk.Phase.the-variants.{Survey}
 use Rattle.sheet.specs.declared.walk.Walk.{Walk}
-use Rattle.sheet.proofs.Stretches.{both, either}
+use Rattle.sheet.proofs.Stretches.{either}
 use Rattle.sheet.proofs.Ends.{ended}
 
 -- a walk in the middle

@@ -9,6 +9,7 @@ use lib.Dec.{leb}
 use lib.ListN.{length, take, drop, getD}
 use lib.Seq.{take-all}
 use lib.Ieee.{Float}
+use Rattle.reals.proofs.Values.{both}
 use Rattle.dynamics.proofs.Calls.{length-0}
 use Rattle.blocks.specs.Block.{machineOf, ticked}
 use Rattle.blocks.specs.declared.block.Tick.{Tick}
@@ -19,7 +20,7 @@ use Rattle.sheet.specs.Walk.{endsAt, Carried, carried, updatedRow, start
 use Rattle.sheet.specs.declared.row.Row.{Row}
 use Rattle.sheet.specs.declared.walk.Phase.the-variants.{Start, Update}
 use Rattle.sheet.specs.declared.walk.Walk.{Walk}
-use Rattle.sheet.proofs.Stretches.{both, cut, patched, take-put, drop-put, length-put, cut-length, up-to}
+use Rattle.sheet.proofs.Stretches.{cut, patched, take-put, drop-put, length-put, cut-length, up-to}
 use Rattle.sheet.proofs.Ends.{EndsAre}
 use Rattle.sheet.proofs.Feeding.{sees}
 

@@ -1,6 +1,6 @@
 -- Times in order, by position: what the yes or no says, and what keeps the order: fewer of them, and a time after the last one or in its place, -0.0 after 0.0 too. Assumes nothing.
 use mathlib.Core.Path.{_≡_, refl, sym, _∙_, ap, subst}
-use mathlib.Core.Bool.{Bool, true, false, not, _&&_, _||_}
+use mathlib.Core.Bool.{Bool, true, false, not, _||_}
 use mathlib.Core.Logic.{_⊎_, ⊎-elim}
 use Prim.Native.Nat.{ℕ, zero, suc, _+_, _-_, _≤_, _<_}
 use native.Mathlib.Nat.{add-assoc, eq-or-lt-of-le}
@@ -9,20 +9,14 @@ use borrow.Author.Tests.{eqb-true, eq-eqb, not-true}
 use lib.Dec.{T, eqb}
 use lib.Ieee.{Float, lt}
 use lib.Ieee.Scale.{finite}
+use Rattle.reals.proofs.Values.{both, both-pass}
 use Rattle.reals.proofs.Order.{number, le-transitive, le-of-not-lt, le-not-lt, le-reflexive, finite-number}
 use Rattle.dynamics.specs.Previous.{soundPrevious, runsBack, isFirst}
 use Rattle.dynamics.specs.declared.previous.Previous.{Previous}
 use Rattle.dynamics.specs.declared.previous.Previous.the-variants.{Unset, At}
 use Rattle.window.specs.Order.{isAbove, Ordered, all, isOrdered}
 
--- ---- yes is yes of each part
-pub and-both : (a b : Bool) → a && b ≡ true → (a ≡ true) × (b ≡ true)
-and-both true b e = (refl, e)
-and-both false b e = absurd (subst T (sym e) tt)
-
-pub both-and : {a b : Bool} → a ≡ true → b ≡ true → a && b ≡ true
-both-and e f = rw (e, f) refl
-
+-- ---- a test that passes, and one that does not
 pub yes-is : {b : Bool} → b ≡ true → T b
 yes-is e = subst T (sym e) tt
 
@@ -33,13 +27,13 @@ pub all-each : (p : ℕ → Bool) (k : ℕ) → all k p ≡ true → (n : ℕ) �
 unfolding all
 all-each p zero e n h = absurd (omega (arith, h))
 all-each p (suc k) e n h =
-    ⊎-elim (λ s. subst (λ (m : ℕ). p m ≡ true) (sym s) (and-both (all k p) (p k) e .1)) (λ l. all-each p k (and-both (all k p) (p k) e .0) n l)
+    ⊎-elim (λ s. subst (λ (m : ℕ). p m ≡ true) (sym s) (both (all k p) (p k) e .1)) (λ l. all-each p k (both (all k p) (p k) e .0) n l)
     (eq-or-lt-of-le {n = n} {m = k} (omega arith))
 
 pub each-all : (p : ℕ → Bool) (k : ℕ) → ((n : ℕ) → n < k → p n ≡ true) → all k p ≡ true
 unfolding all
 each-all p zero f = refl
-each-all p (suc k) f = both-and (each-all p k (λ n h. f n (omega arith))) (f k (omega arith))
+each-all p (suc k) f = both-pass (each-all p k (λ n h. f n (omega arith))) (f k (omega arith))
 
 -- the previous time is set, or the count is 0
 set-or-none : (p : Previous) (count : ℕ) → not (isFirst p) || eqb count 0 ≡ true → p ≡ Unset → count ≡ 0
@@ -55,9 +49,9 @@ module _ (time : ℕ → Float) (count : ℕ) (p : Previous) where
   pub ordered-means : isOrdered time count p ≡ true → Ordered time count p
   unfolding isOrdered
   ordered-means e =
-      let (f, e1) = and-both (all count (λ n. finite (time n))) _ e in
-      let (r, e2) = and-both (all (count - 1) (λ n. not (lt (time (n + 1)) (time n)))) _ e1 in
-      let (a, b) = and-both (all count (λ n. not (isAbove (time n) p))) _ e2 in
+      let (f, e1) = both (all count (λ n. finite (time n))) _ e in
+      let (r, e2) = both (all (count - 1) (λ n. not (lt (time (n + 1)) (time n)))) _ e1 in
+      let (a, b) = both (all count (λ n. not (isAbove (time n) p))) _ e2 in
       record {
         finites = all-each (λ n. finite (time n)) count f;
         rises = λ n h. not-true _ (all-each (λ n. not (lt (time (n + 1)) (time n))) (count - 1) r n (omega arith));
@@ -68,9 +62,9 @@ module _ (time : ℕ → Float) (count : ℕ) (p : Previous) where
   pub means-ordered : Ordered time count p → isOrdered time count p ≡ true
   unfolding isOrdered
   means-ordered o =
-      both-and (each-all (λ n. finite (time n)) count (o .finites))
-      (both-and (each-all (λ n. not (lt (time (n + 1)) (time n))) (count - 1) (λ n h. not-yes (o .rises n (omega arith))))
-      (both-and (each-all (λ n. not (isAbove (time n) p)) count (λ n h. not-yes (o .past n h))) (none-or-set p count (o .begun))))
+      both-pass (each-all (λ n. finite (time n)) count (o .finites))
+      (both-pass (each-all (λ n. not (lt (time (n + 1)) (time n))) (count - 1) (λ n h. not-yes (o .rises n (omega arith))))
+      (both-pass (each-all (λ n. not (isAbove (time n) p)) count (λ n h. not-yes (o .past n h))) (none-or-set p count (o .begun))))
 
 -- ---- no times are in order
 pub none-ordered : (time : ℕ → Float) (count : ℕ) (p : Previous) → count ≡ 0 → Ordered time count p

@@ -41,27 +41,27 @@ module _ (b : MovingAverage) (time : Float) (i : Inputs) (w : List ℕ) (ok : ti
   abbrev warning : Bool
   warning = machine b .warns w time i
 
-  abbrev step : Step
+  abbrev pub step : Step
   step = stepOf (geometryOf (b .delta)) w (stateOf w) time (muNow (stateOf w) time (realOf (i .first)))
 
-  ring-holds : Holds w (step .ring)
+  pub step-holds : Holds w (step .ring)
   unfolding stepOf ringAt
-  ring-holds = pruned-holds w _ _ (holds b time i w ok)
+  step-holds = pruned-holds w _ _ (holds b time i w ok)
 
   -- the region keeps its length
   pub tick-length : length left ≡ length w
   unfolding machineFor afterOf
-  tick-length = written-length w step ring-holds
+  tick-length = written-length w step step-holds
 
   -- the start time's word is written on the first tick alone
   pub start-word : getD left 1 0 ≡ startWord (getD w 1 0) (isFirst (stateOf w .previous)) time
   unfolding machineFor afterOf stepOf
-  start-word = written-front w step ring-holds 1 (omega arith)
+  start-word = written-front w step step-holds 1 (omega arith)
 
   -- the coalesced word is written with the warning alone
   pub coalesced-word : getD left 5 0 ≡ latch (getD w 5 0) warning
   unfolding machineFor afterOf stepOf
-  coalesced-word = written-front w step ring-holds 5 (omega arith)
+  coalesced-word = written-front w step step-holds 5 (omega arith)
 
   -- the warning is true exactly on the call that turns the coalesced word from 0 to 1
   pub warning-exactly : warning ≡ eqb (getD w 5 0) 0 && eqb (getD left 5 0) 1
@@ -71,25 +71,25 @@ module _ (b : MovingAverage) (time : Float) (i : Inputs) (w : List ℕ) (ok : ti
   -- what it leaves decodes: the previous time is this tick's, head and count are the step's, within the capacity
   pub previous-after : T (fits binary64 time) → stateOf left .previous ≡ At time
   unfolding machineFor afterOf stepOf stateOf
-  previous-after f = ap previousOf (written-front w step ring-holds 2 (omega arith)) ∙ previous-back time f
+  previous-after f = ap previousOf (written-front w step step-holds 2 (omega arith)) ∙ previous-back time f
 
   pub head-after : stateOf left .head ≡ step .ring .head
   unfolding machineFor afterOf stateOf
-  head-after = written-front w step ring-holds 3 (omega arith)
+  head-after = written-front w step step-holds 3 (omega arith)
 
   pub count-after : stateOf left .count ≡ step .place .count
   unfolding machineFor afterOf stateOf
-  count-after = written-front w step ring-holds 4 (omega arith)
+  count-after = written-front w step step-holds 4 (omega arith)
 
-  place-fits : Last (step .ring) (step .place)
+  pub place-fits : Last (step .ring) (step .place)
   unfolding stepOf placeAt
-  place-fits = place-last w (step .ring) _ time (ring-holds .stands)
+  place-fits = place-last w (step .ring) _ time (step-holds .stands)
 
   pub decodes-after : T (fits binary64 time) → machine b .decodes left ≡ true
   unfolding machineFor decodable stepOf ringAt pruned
   decodes-after f =
       let few : step .place .count ≤ geometryOf (b .delta) .capacity = omega (arith, place-fits .last, place-fits .room) in
-      rw (previous-after f, tick-time (machine b) time i w ok, head-after, count-after, lt-ltb _ _ (ring-holds .stands .first), le-leb _ _ few)
+      rw (previous-after f, tick-time (machine b) time i w ok, head-after, count-after, lt-ltb _ _ (step-holds .stands .first), le-leb _ _ few)
 
   pub left-decodes : T (fits binary64 time) → decodeRefusal (machine b) left ≡ 0
   unfolding decodeRefusal refusalOf

@@ -22,17 +22,16 @@ use Rattle.window.specs.Geometry.{geometryOf}
 use Rattle.window.specs.Order.{Ordered}
 use Rattle.window.proofs.Sizes.{capacity-least}
 use Rattle.window.proofs.Orders.{ordered-means, means-ordered, none-ordered, dropped-ordered, stored-ordered}
-use Rattle.moving_average.specs.Ring.{Holds, slotOf, timeOf, timePlace, timeWord, timeAt}
+use Rattle.moving_average.specs.Ring.{slotOf, timeOf, timePlace, timeWord, timeAt}
 use Rattle.moving_average.specs.Average.{pruned, written}
-use Rattle.moving_average.specs.MovingAverage.{stateOf, ringOf, decodable, inOrder, fresh, muNow, ringAt, placeAt, stepOf, afterOf, machineFor, machine, PointsOrdered, Sound}
+use Rattle.moving_average.specs.MovingAverage.{stateOf, ringOf, decodable, inOrder, fresh, ringAt, stepOf, afterOf, machineFor, machine, PointsOrdered, Sound}
 use Rattle.moving_average.specs.declared.MovingAverage.{MovingAverage}
 use Rattle.moving_average.specs.declared.ring.Ring.{Ring}
 use Rattle.moving_average.specs.declared.store.Step.{Step}
 use Rattle.moving_average.proofs.Turns.{time-on}
-use Rattle.moving_average.proofs.Walks.{pruned-holds}
-use Rattle.moving_average.proofs.Stores.{Last, place-last, time-new, time-old}
-use Rattle.moving_average.proofs.Decoding.{holds, previous-decodes, sound-is}
-use Rattle.moving_average.proofs.Rules.{fresh-length, tick-length, previous-after, head-after, count-after, decodes-after}
+use Rattle.moving_average.proofs.Stores.{Last, time-new, time-old}
+use Rattle.moving_average.proofs.Decoding.{previous-decodes, sound-is}
+use Rattle.moving_average.proofs.Rules.{step, step-holds, place-fits, fresh-length, tick-length, previous-after, head-after, count-after, decodes-after}
 
 -- ---- sound is yes exactly if the region decodes and the times of its ring are in order
 module _ (b : MovingAverage) (w : List ℕ) where
@@ -58,41 +57,35 @@ module _ (b : MovingAverage) (time : Float) (i : Inputs) (w : List ℕ) (ok : ti
   abbrev left : List ℕ
   left = machine b .after w time i
 
-  abbrev step : Step
-  step = stepOf (geometryOf (b .delta)) w (stateOf w) time (muNow (stateOf w) time (realOf (i .first)))
+  -- what it did
+  abbrev done : Step
+  done = step b time i w ok
 
-  -- the ring once it is pruned, and as the tick leaves it
-  abbrev pruned-ring : Ring
-  pruned-ring = ringAt (geometryOf (b .delta)) w (stateOf w) time
-
+  -- the ring as the tick leaves it
   abbrev ring-left : Ring
   ring-left = ringOf (stateOf left) (geometryOf (b .delta) .capacity)
 
-  ring-stands : Holds w pruned-ring
-  unfolding ringAt
-  ring-stands = pruned-holds w _ _ (holds b time i w ok)
-
-  pruned-ordered : PointsOrdered b w → Ordered (timeAt w pruned-ring) (pruned-ring .count) (stateOf w .previous)
-  unfolding ringAt pruned
+  -- pruned, it is in order still
+  pruned-ordered : PointsOrdered b w → Ordered (timeAt w (done .ring)) (done .ring .count) (stateOf w .previous)
+  unfolding stepOf ringAt pruned
   pruned-ordered o = dropped-ordered _ _ _ _ _ (λ n. time-on w _ _ n) o
 
-  -- the tick's time stands at its place, and each older one where it stood
-  place-fits : Last pruned-ring (step .place)
-  unfolding stepOf placeAt
-  place-fits = place-last w pruned-ring _ time (ring-stands .stands)
+  fits-in : Last (done .ring) (done .place)
+  fits-in = place-fits b time i w ok
 
+  -- the tick's time stands at its place, and each older one where it stood
   module _ (n : ℕ) where
-    as-written : timeAt left ring-left n ≡ realOf (timeWord (written w step) pruned-ring n)
+    as-written : timeAt left ring-left n ≡ realOf (timeWord (written w done) (done .ring) n)
     unfolding machineFor afterOf stepOf timeAt timeWord timePlace slotOf ringAt pruned
     as-written = ap (λ (head : ℕ). realOf (getD left (timeOf ((head + n) % geometryOf (b .delta) .capacity)) 0)) (head-after b time i w ok)
 
-    older : n < step .place .position → timeAt left ring-left n ≡ timeAt w pruned-ring n
+    older : n < done .place .position → timeAt left ring-left n ≡ timeAt w (done .ring) n
     unfolding timeAt stepOf
-    older h = as-written ∙ ap realOf (time-old w step ring-stands (place-fits .room) n (omega (arith, place-fits .room)) (λ e. omega arith))
+    older h = as-written ∙ ap realOf (time-old w done (step-holds b time i w ok) (fits-in .room) n (omega (arith, fits-in .room)) (λ e. omega arith))
 
-    newest : n ≡ step .place .position → T (fits binary64 time) → timeAt left ring-left n ≡ time
+    newest : n ≡ done .place .position → T (fits binary64 time) → timeAt left ring-left n ≡ time
     unfolding stepOf
-    newest e f = as-written ∙ ap realOf (rw e (time-new w step ring-stands (place-fits .room))) ∙ real-word time f
+    newest e f = as-written ∙ ap realOf (rw e (time-new w done (step-holds b time i w ok) (fits-in .room))) ∙ real-word time f
 
   previous-sound : soundPrevious (stateOf w .previous) ≡ true
   previous-sound = previous-decodes b w (tick-decodes (machine b) time i w ok)
@@ -103,10 +96,10 @@ module _ (b : MovingAverage) (time : Float) (i : Inputs) (w : List ℕ) (ok : ti
 
   left-ordered : T (fits binary64 time) → PointsOrdered b w → PointsOrdered b left
   left-ordered f o =
-      subst (λ (n : ℕ). Ordered (timeAt left ring-left) n (stateOf left .previous)) (place-fits .last ∙ sym (count-after b time i w ok))
-      (subst (λ (p : Previous). Ordered (timeAt left ring-left) (step .place .position + 1) p) (sym (previous-after b time i w ok f))
-      (stored-ordered (timeAt w pruned-ring) (timeAt left ring-left) (pruned-ring .count) (step .place .position) (stateOf w .previous) time
-      (place-fits .near) (pruned-ordered o) older (newest (step .place .position) refl f) (tick-time (machine b) time i w ok) previous-sound on-time))
+      subst (λ (n : ℕ). Ordered (timeAt left ring-left) n (stateOf left .previous)) (fits-in .last ∙ sym (count-after b time i w ok))
+      (subst (λ (p : Previous). Ordered (timeAt left ring-left) (done .place .position + 1) p) (sym (previous-after b time i w ok f))
+      (stored-ordered (timeAt w (done .ring)) (timeAt left ring-left) (done .ring .count) (done .place .position) (stateOf w .previous) time
+      (fits-in .near) (pruned-ordered o) older (newest (done .place .position) refl f) (tick-time (machine b) time i w ok) previous-sound on-time))
 
 -- ---- a start
 module _ (b : MovingAverage) where

@@ -141,7 +141,7 @@ between (fin t m e) (inf true) c fa fc h k = absurd (unfold le in h)
 between (fin t m e) (inf false) c fa fc h k = absurd (subst (λ (x : Float). T (finite x)) (over-all c k) fc)
 between a (fin s m e) c fa fc h k = tt
 
--- ---- no times are in order
+-- ---- where there are no times, they are in order
 pub none-walked : (time : ℕ → Float) (count : ℕ) (p : Previous) → count ≡ 0 → isOrdered time count p ≡ true
 none-walked time count p e = means-ordered time count p (none-ordered time count p e)
 

@@ -66,7 +66,7 @@ module _ (time : ℕ → Float) (count : ℕ) (p : Previous) where
       (both-pass (each-all (λ n. not (lt (time (n + 1)) (time n))) (count - 1) (λ n h. not-yes (o .rises n (omega arith))))
       (both-pass (each-all (λ n. not (isAbove (time n) p)) count (λ n h. not-yes (o .past n h))) (none-or-set p count (o .begun))))
 
--- ---- no times are in order
+-- ---- where there are no times, they are in order
 pub none-ordered : (time : ℕ → Float) (count : ℕ) (p : Previous) → count ≡ 0 → Ordered time count p
 none-ordered time count p e =
     record {

@@ -107,7 +107,7 @@ static void sheet(void) {
     show_sheet("", oven_sheet_start(rows, LEN, region, 9));
     columns(rows, region, answers);
     rows[OF_DELAY + OVEN_ROW_FIRST] = UINT64_MAX; /* 13 comes before the column's 1 */
-    rows[OF_CLOCK + OVEN_ROW_BLOCK] = 7;
+    rows[OF_CLOCK + OVEN_ROW_BLOCK] = 8;
     show_sheet("refused", oven_sheet_start(rows, LEN, region, 9));
 }
 
@@ -140,7 +140,7 @@ int main(void) {
     }
     const uint64_t no_number[OVEN_TRUE_DELAY_SETTINGS] = {OVEN_UNSET, 1}; /* a NaN */
     const uint64_t refused[] = {
-        oven_start(7, settings, 2, region, 4),
+        oven_start(8, settings, 2, region, 4),
         oven_start(block, settings, 1, region, 4),
         oven_run(block, settings, 2, ticks, 11, region, 4, answers, 11),
         oven_run(block, settings, 2, ticks, 12, region, 4, answers, 8),

@@ -3,6 +3,7 @@
 #include "checks.h"
 #include "classes.h"
 #include "due.h"
+#include "pulses.h"
 #include "rings.h"
 
 /* Words of regions that one list may take; it keeps a list of a large ring short. */
@@ -23,10 +24,15 @@ static uint64_t bench_region[REGION_MOST];
 
 /* A block's number; a moving average, whose regions are long, comes up so often in 50. */
 static uint64_t some_block(struct bytes *b, size_t averages) {
-    static const uint64_t others[] = {OVEN_PID,        OVEN_PID_WITH_RESET,  OVEN_TIMER_ACCUMULATING,
-                                      OVEN_TRUE_DELAY, OVEN_TRUE_FALSE_HOLD, OVEN_TRUE_HOLD_WITH_RESET};
+    static const uint64_t others[] = {OVEN_PID,
+                                      OVEN_PID_WITH_RESET,
+                                      OVEN_TIMER_ACCUMULATING,
+                                      OVEN_TRUE_DELAY,
+                                      OVEN_TRUE_FALSE_HOLD,
+                                      OVEN_TRUE_HOLD_WITH_RESET,
+                                      OVEN_LOGICAL_VARIABLE_PULSE};
     const size_t choice = choose(b, 50);
-    return choice >= 50 - averages ? OVEN_MOVING_AVERAGE : others[choice % 6];
+    return choice >= 50 - averages ? OVEN_MOVING_AVERAGE : others[choice % 7];
 }
 
 /* A delta: mostly one of the least ring, sometimes of a longer one, now and then of the longest. */
@@ -38,7 +44,7 @@ static uint64_t some_delta(struct bytes *b) {
     return choice < 6 ? oven_word(1023.0 + (double)choose(b, 2048) / 8.0) : finite_word(b);
 }
 
-/* Settings that are finite, and a type. */
+/* Settings that are finite, and a type; of a pulse mostly within its limits. */
 static void some_settings(struct bytes *b, uint64_t block, uint64_t *settings) {
     for (size_t n = 0; n < due_settings(block); n++) {
         settings[n] = block == OVEN_MOVING_AVERAGE ? some_delta(b) : finite_word(b);
@@ -46,6 +52,8 @@ static void some_settings(struct bytes *b, uint64_t block, uint64_t *settings) {
     if (block == OVEN_PID || block == OVEN_PID_WITH_RESET) {
         settings[OVEN_PID_TYPE] = choose(b, 4);
         settings[OVEN_PID_REVERSE_ACTING] = choose(b, 2) == 0 ? choose(b, 2) : any_word(b);
+    } else if (block == OVEN_LOGICAL_VARIABLE_PULSE) {
+        put_pulse_settings(b, settings);
     }
 }
 
@@ -76,9 +84,12 @@ static void begin_block(struct bytes *b) {
     }
 }
 
+/* How rows feed rows: not at all, some of them, or each the next. */
+enum feeding { NO_ROWS, SOME_ROWS, EACH_ROW };
+
 /* A column of row n: a word of the tick, or where rows feed rows mostly an answer of the row above or of any further up. */
-static uint64_t some_column(struct bytes *b, size_t n, bool feeds) {
-    const size_t choice = feeds && n > 0 ? choose(b, 4) : 0;
+static uint64_t some_column(struct bytes *b, size_t n, enum feeding feeding) {
+    const size_t choice = feeding == NO_ROWS || n == 0 ? 0 : feeding == EACH_ROW ? 2 : choose(b, 4);
     if (choice == 0) {
         return choose(b, 8);
     }
@@ -88,17 +99,18 @@ static uint64_t some_column(struct bytes *b, size_t n, bool feeds) {
 /* Half of the sheets have rows that feed rows. There, a controller in four has both limits at -0.0, and mostly answers it. */
 static void begin_sheet(struct bytes *b) {
     const size_t rows = 1 + choose(b, choose(b, 4) == 0 ? 16 : 5);
-    const bool feeds = choose(b, 2) == 0;
+    static const enum feeding feedings[] = {NO_ROWS, NO_ROWS, SOME_ROWS, EACH_ROW};
+    const enum feeding feeding = feedings[choose(b, 4)];
     size_t len = 0;
     bench.rows_len = rows * OVEN_ROW_WORDS;
     for (uint64_t *row = bench.rows; row < bench.rows + bench.rows_len; row += OVEN_ROW_WORDS) {
         memset(row, 0xFF, OVEN_ROW_WORDS * sizeof *row); /* settings that a block does not read are no numbers */
         row[OVEN_ROW_BLOCK] = some_block(b, 1);
         for (size_t n = OVEN_ROW_FIRST; n < OVEN_ROW_SETTINGS; n++) {
-            row[n] = some_column(b, (size_t)(row - bench.rows) / OVEN_ROW_WORDS, feeds);
+            row[n] = some_column(b, (size_t)(row - bench.rows) / OVEN_ROW_WORDS, feeding);
         }
         some_settings(b, row[OVEN_ROW_BLOCK], row + OVEN_ROW_SETTINGS);
-        if (feeds && row[OVEN_ROW_BLOCK] <= OVEN_PID_WITH_RESET && choose(b, 4) == 0) {
+        if (feeding != NO_ROWS && row[OVEN_ROW_BLOCK] <= OVEN_PID_WITH_RESET && choose(b, 4) == 0) {
             row[OVEN_ROW_SETTINGS + OVEN_PID_Y_MAX] = row[OVEN_ROW_SETTINGS + OVEN_PID_Y_MIN] = 1ULL << 63;
         }
         len += due_length(row[OVEN_ROW_BLOCK], row + OVEN_ROW_SETTINGS);
@@ -137,7 +149,7 @@ static uint64_t *own_settings(struct call *c) {
 static void spoil_block(struct bytes *b, struct call *c) {
     switch (choose(b, 6)) {
     case 0:
-        c->block = choose(b, 4) == 0 ? any_word(b) : choose(b, 9);
+        c->block = choose(b, 4) == 0 ? any_word(b) : choose(b, 10);
         break;
     case 1:
         c->settings.len = wrong_length(b, c->settings.len, MOST);
@@ -192,7 +204,7 @@ static void spoil_sheet(struct bytes *b, struct call *c) {
         c->rows.len = choose(b, 24) * OVEN_ROW_WORDS;
         break;
     case 2:
-        *own_row_word(b, c, OVEN_ROW_BLOCK) = choose(b, 4) == 0 ? any_word(b) : choose(b, 9);
+        *own_row_word(b, c, OVEN_ROW_BLOCK) = choose(b, 4) == 0 ? any_word(b) : choose(b, 10);
         break;
     case 3:
         spoil_column(b, c);
@@ -213,8 +225,11 @@ static void spoil_sheet(struct bytes *b, struct call *c) {
 
 /* ---- Calls. */
 
-/* An input: as a boolean it is false one time in three. */
-static uint64_t some_input(struct bytes *b) { return choose(b, 3) == 0 ? 0 : any_word(b); }
+/* An input: as a boolean it is false one time in three, and sometimes it is a duty ratio. */
+static uint64_t some_input(struct bytes *b) {
+    const size_t choice = choose(b, 6);
+    return choice < 2 ? 0 : choice == 2 ? some_ratio(b) : any_word(b);
+}
 
 /* Ticks of a run: a few, or many of a short region. Their number of words and the answers' may be wrong. */
 static void some_ticks(struct bytes *b, struct call *c) {
@@ -248,13 +263,26 @@ static void go_on(const struct call *c, const struct outcome *o) {
     }
 }
 
+/* The previous time in this place of the region; 0.0 if it is unset. */
+static double previous_time(size_t place) { return bench_region[place] == OVEN_UNSET ? 0.0 : oven_real(bench_region[place]); }
+
 /* Puts another ring into a moving average's region, for this call and those to come. In half of the cases it is asked whether it
  * is sound. */
 static void another_ring(struct bytes *b, struct call *c) {
     put_ring(b, bench_region, bench.region_len);
-    const uint64_t previous = bench_region[RING_PREVIOUS];
-    bench.now = previous == OVEN_UNSET ? 0.0 : oven_real(previous);
+    bench.now = previous_time(RING_PREVIOUS);
     c->kind = choose(b, 2) == 0 ? SOUND : c->kind;
+}
+
+/* Mostly gives a pulse a tick at which a rule turns, in one of three cases on other words, which stay for the calls to come. */
+static void another_pulse(struct bytes *b, struct call *c) {
+    if (choose(b, 3) == 0) {
+        put_pulse(b, bench.settings, bench_region);
+        bench.now = previous_time(PULSE_PREVIOUS);
+    }
+    if (choose(b, 4) != 0) {
+        put_pulse_tick(b, bench.settings, bench_region, &c->time, &c->inputs[0]);
+    }
 }
 
 /* A call of this list, as a user means it and in one of three cases spoilt. */
@@ -269,6 +297,9 @@ static void one_call(struct bytes *b, bool of_sheet) {
     c.time = any_time(b, bench.now);
     for (size_t n = 0; n < (of_sheet ? 8 : 3); n++) {
         c.inputs[n] = some_input(b);
+    }
+    if (!of_sheet && bench.block == OVEN_LOGICAL_VARIABLE_PULSE && bench.region_len == PULSE_WORDS) {
+        another_pulse(b, &c);
     }
     if (of_sheet) {
         c.rows = (struct words){bench.rows, bench.rows_len};

@@ -63,6 +63,11 @@ static void check_answer(const struct call *c, const uint64_t *said) {
     const bool gives_outputs = c->kind != UPDATE, can_warn = c->kind != EMIT && c->block == OVEN_MOVING_AVERAGE;
     require(gives_outputs && has_real(c->block) ? due_canonical(said[1]) == said[1] : said[1] == 0, "the real output");
     require(said[2] <= (gives_outputs && has_boolean(c->block)), "the boolean output");
+    if (gives_outputs && c->block == OVEN_LOGICAL_VARIABLE_PULSE) {
+        uint64_t due[OVEN_LOGICAL_VARIABLE_PULSE_LENGTH];
+        due_pulse(c, due);
+        require(said[2] == due[OVEN_LOGICAL_VARIABLE_PULSE_STATE_HELD], "the output of a pulse");
+    }
     require(said[3] <= can_warn, "the warning");
 }
 
@@ -84,6 +89,11 @@ static void check_stored(const struct call *c, const uint64_t *region, uint64_t 
         points += region[n] != before[n];
     }
     require(points <= 2, "more than a time and an integral changed in the ring");
+    if (c->block == OVEN_LOGICAL_VARIABLE_PULSE) {
+        uint64_t due[OVEN_LOGICAL_VARIABLE_PULSE_LENGTH];
+        due_pulse(c, due);
+        require(same_words(region, due, c->region.len), "the words of a pulse");
+    }
     const struct call decode = {.kind = DECODE, .block = c->block, .settings = c->settings, .region = {region, c->region.len}};
     require(due_of(&decode).number == OVEN_ACCEPTED, "the state left is damaged");
     require(due_sound(&decode) || !due_sound(c), "a tick leaves a sound region that is not sound");
@@ -270,7 +280,7 @@ static void accepted_sheet_tick(const struct call *c, const struct outcome *o) {
 /* Marks what came out, for libFuzzer: outputs true, zero, negative, a NaN or infinite, and warnings, of each block. */
 static void mark(const struct call *c, const uint64_t *said, uint64_t number) {
     const unsigned real = said[1] == 0 ? 0 : !is_finite(said[1]) ? 1 : said[1] >> 63 ? 2 : 3;
-    const unsigned shape = is_sheet(c->kind) ? (unsigned)(c->rows.len / OVEN_ROW_WORDS % 16) : (unsigned)(c->block % 7) * 8 + real;
+    const unsigned shape = is_sheet(c->kind) ? (unsigned)(c->rows.len / OVEN_ROW_WORDS % 16) : (unsigned)(c->block % 8) * 8 + real;
     shown[c->kind][number][(shape + 4 * (said[2] != 0)) % 64] |= (uint8_t)(1 + said[3] % 2);
 }
 

@@ -1,6 +1,7 @@
 /* The classes that calls must meet, and how often they did. */
 #include "classes.h"
 #include "due.h"
+#include "pulse_classes.h"
 #include "sound_classes.h"
 
 #include <inttypes.h>
@@ -12,8 +13,8 @@ enum lent_length { BLOCK_REGION, SHEET_REGION, SHEET_ANSWERS, LENGTHS };
 /* Where a boolean setting stands. */
 enum owner { IN_SETTINGS, IN_ROWS, OWNERS };
 
-/* The timers are the blocks from this one on. */
-enum { TIMERS = OVEN_TRUE_HOLD_WITH_RESET - OVEN_TIMER_ACCUMULATING + 1 };
+/* The blocks that keep a sum of gaps are those from this one on: the timers and the pulse. */
+enum { TIMERS = OVEN_LOGICAL_VARIABLE_PULSE - OVEN_TIMER_ACCUMULATING + 1 };
 
 /* A word that a row hands on, and how it is read: its output, or its second one. */
 enum fed {
@@ -142,6 +143,12 @@ void count_classes(const struct call *c, const struct outcome *o, uint64_t numbe
     if (number == OVEN_ACCEPTED && stores && c->block >= OVEN_TIMER_ACCUMULATING) {
         count_zero_sum(c, o->region);
     }
+    if (number == OVEN_ACCEPTED && stores && c->block == OVEN_LOGICAL_VARIABLE_PULSE) {
+        count_pulse(c, o->region);
+    }
+    if (number == OVEN_BAD_SETTING && c->block == OVEN_LOGICAL_VARIABLE_PULSE && !is_sheet(c->kind)) {
+        count_limits(c->settings.at);
+    }
     if (number == OVEN_BAD_LENGTH && is_sheet(c->kind)) {
         count_length(SHEET_REGION, c->region.len, due_sheet_length(c));
     } else if (number == OVEN_BAD_LENGTH) {
@@ -177,6 +184,7 @@ void report_classes(int *met, int *missed) {
     report_counts("sums of a -0.0 and a gap of -0.0, by timer", zero_sums, TIMERS, met, missed);
     report_counts("boolean settings neither 0 nor 1, of a block and in rows", booleans, OWNERS, met, missed);
     report_rings(met, missed);
+    report_pulses(met, missed);
     report_counts(
         "fed words, a real, NaN and true as reals, a real, -0.0 and true as booleans, false, second true, no second, not read",
         feds, FEDS, met, missed);

@@ -1,7 +1,7 @@
-/* Document 01's table of refusals, its state words and its start; document 02's sound rings. */
+/* Document 01's table of refusals, its state words and its start; document 02's sound rings and limits of a pulse. */
 #include "due.h"
 
-enum { BLOCKS = 7, TYPES = 4, ROWS_MOST = 16, COLUMNS = 8 };
+enum { BLOCKS = 8, TYPES = 4, ROWS_MOST = 16, COLUMNS = 8 };
 
 static const struct {
     size_t settings, first_real, reals; /* a boolean setting comes behind the reals */
@@ -15,6 +15,7 @@ static const struct {
     [OVEN_TRUE_DELAY] = {2, 0, 1, "b", false, true},
     [OVEN_TRUE_FALSE_HOLD] = {2, 0, 2, "b", false, true},
     [OVEN_TRUE_HOLD_WITH_RESET] = {1, 0, 1, "bb", false, true},
+    [OVEN_LOGICAL_VARIABLE_PULSE] = {3, 0, 3, "r", false, true},
 };
 
 size_t due_settings(uint64_t block) { return facts[block].settings; }
@@ -31,7 +32,7 @@ static bool is_controller(uint64_t block) { return block == OVEN_PID || block ==
 
 const char *due_layout(uint64_t block, const uint64_t *settings) {
     static const char *const controllers[2][TYPES] = {{"", "it", "tf", "itf"}, {"", "itg", "tf", "itfg"}};
-    static const char *const others[BLOCKS] = {"", "", "rsthnc", "rtbbb", "rtbb", "brt", "brt"};
+    static const char *const others[BLOCKS] = {"", "", "rsthnc", "rtbbb", "rtbb", "brt", "brt", "rrbrt"};
     return is_controller(block) ? controllers[block][settings[OVEN_PID_TYPE]] : others[block];
 }
 
@@ -48,17 +49,18 @@ static size_t capacity(uint64_t delta) {
     return 2 * ((double)cut < seconds ? cut + 1 : cut) + 4;
 }
 
-static bool are_settings_finite(uint64_t block, const uint64_t *settings) {
+/* Reals are finite, and a pulse's lie within their limits. */
+static bool are_settings_accepted(uint64_t block, const uint64_t *settings) {
     for (size_t n = 0; n < facts[block].reals; n++) {
         if (!is_finite(settings[facts[block].first_real + n])) {
             return false;
         }
     }
-    return true;
+    return block != OVEN_LOGICAL_VARIABLE_PULSE || are_within_limits(settings);
 }
 
 size_t due_length(uint64_t block, const uint64_t *settings) {
-    if (!are_settings_finite(block, settings)) {
+    if (!are_settings_accepted(block, settings)) {
         return 0;
     }
     const size_t points = block == OVEN_MOVING_AVERAGE ? 2 * capacity(settings[0]) : 0;
@@ -96,7 +98,7 @@ static uint64_t due_number(const struct call *c) {
         (c->ticks.len % OVEN_TICK_WORDS != 0 || c->answers.len != c->ticks.len / OVEN_TICK_WORDS * OVEN_ANSWER_WORDS)) {
         return OVEN_BAD_TICKS;
     }
-    if (!are_settings_finite(c->block, settings)) {
+    if (!are_settings_accepted(c->block, settings)) {
         return OVEN_BAD_SETTING;
     }
     if (c->kind == LENGTH) {
@@ -137,7 +139,7 @@ static bool has_no_column(const struct call *c, const uint64_t *row, const uint6
 
 static bool has_bad_setting(const struct call *c, const uint64_t *row, const uint64_t *region) {
     (void)c, (void)region;
-    return !are_settings_finite(row[OVEN_ROW_BLOCK], row + OVEN_ROW_SETTINGS);
+    return !are_settings_accepted(row[OVEN_ROW_BLOCK], row + OVEN_ROW_SETTINGS);
 }
 
 static bool has_bad_state(const struct call *c, const uint64_t *row, const uint64_t *region) {
@@ -226,7 +228,8 @@ size_t due_sum_place(uint64_t block) {
                                           OVEN_TIMER_ACCUMULATING_STATE_TOTAL,
                                           OVEN_TRUE_DELAY_STATE_TIMER,
                                           OVEN_HOLD_STATE_TIMER,
-                                          OVEN_HOLD_STATE_TIMER};
+                                          OVEN_HOLD_STATE_TIMER,
+                                          OVEN_LOGICAL_VARIABLE_PULSE_STATE_TIMER};
     return places[block];
 }
 
@@ -270,7 +273,16 @@ static uint64_t due_hold(const struct call *c, const uint64_t *after) {
     return counts ? grown(c, w[OVEN_HOLD_STATE_TIMER], previous) : 0;
 }
 
+static uint64_t due_pulse_timer(const struct call *c) {
+    uint64_t words[OVEN_LOGICAL_VARIABLE_PULSE_LENGTH];
+    due_pulse(c, words);
+    return words[OVEN_LOGICAL_VARIABLE_PULSE_STATE_TIMER];
+}
+
 uint64_t due_sum(const struct call *c, const uint64_t *after) {
+    if (c->block == OVEN_LOGICAL_VARIABLE_PULSE) {
+        return due_pulse_timer(c);
+    }
     return c->block == OVEN_TIMER_ACCUMULATING ? due_total(c) : c->block == OVEN_TRUE_DELAY ? due_delay(c) : due_hold(c, after);
 }
 

@@ -42,6 +42,19 @@ void due_start(uint64_t block, const uint64_t *settings, uint64_t *region);
 size_t due_sum_place(uint64_t block);
 uint64_t due_sum(const struct call *call, const uint64_t *after);
 
+/* Whether a pulse's settings, which are finite, lie within the limits of document 02's request 3. */
+bool are_within_limits(const uint64_t *settings);
+
+/* The five words that an accepted tick of a pulse leaves: also what it answers, as the held output. */
+void due_pulse(const struct call *call, uint64_t *after);
+
+/* The greatest whole number that is not above x. From 2^52 on every number is whole. */
+double due_floor(double x);
+
+/* The period that a pulse goes by, and the begin of the cycle that holds this time, of cycles that are counted from an anchor. */
+double due_period(const uint64_t *settings);
+double due_begin(double time, double anchor, double period);
+
 /* Whether the region of this call, of one block, is sound. */
 bool due_sound(const struct call *call);
 

@@ -1,73 +1,12 @@
 /*
  * Wrong libraries: the proved calls with one slip each. The linker puts them in the place of the library's
  * (`-Wl,--wrap=oven_start` and so on), and the variable WRONG says which slip there is. random_calls must catch each.
+ * Without a slip too, what is found of a ring, a pulse's tick and rows that are fed are made here: they must be the library's.
  */
+#include "wrong.h"
 #include "rings.h"
 
 #include <stdlib.h>
-
-enum slip {
-    NONE,
-    WRITES_PAST_THE_REGION,
-    READS_PAST_THE_REGION,
-    READS_BEFORE_THE_SETTINGS,
-    WRITES_WHAT_IS_READ,
-    CHANGES_A_WORD_ON_REFUSAL,
-    GIVES_7_FOR_5,
-    REFUSES_AN_EQUAL_TIME,
-    GIVES_AN_OUTPUT_ON_REFUSAL,
-    FORGETS_TO_STORE,
-    GIVES_ANOTHER_NAN,
-    STARTS_A_LONGER_REGION,
-    LEAVES_A_POINT_AT_START,
-    GIVES_A_LONGER_LENGTH,
-    LEAVES_OUT_A_TICK,
-    REMEMBERS_CALLS,
-    SOUND_WHERE_DAMAGED,
-    DECODES_ANOTHER_WORD,
-    SWAPS_ROWS,
-    NAMES_THE_FIRST_ROW,
-    WRITES_ANSWERS_ON_REFUSAL,
-    READS_A_SETTING_AS_1,
-    READS_A_ROWS_SETTING_BY_ITS_LOW_BIT,
-    LOSES_THE_SIGN_OF_A_SUM,
-    COMPARES_LOW_BYTES_OF_LENGTHS,
-    TAKES_A_SHEETS_LONGER_REGION,
-    TAKES_A_LARGER_ANSWER_SPACE,
-    RUNS_REFUSED_SETTINGS,
-    ANSWERS_A_REFUSED_RUN,
-    UPDATES_BEFORE_IT_EMITS,
-    WARNS_FOR_THE_LAST_ROW,
-    STORES_A_ROW_ON_REFUSAL,
-    TAKES_SEVENTEEN_ROWS,
-    TAKES_A_ROWS_OWN_WORDS,
-    TAKES_A_COLUMN_THAT_IS_NOT_READ,
-    STARTS_ON_ANY_COLUMNS,
-    NAMES_THE_ROW_OF_A_COLUMN,
-    REFUSES_THE_ROW_ABOVE,
-    FEEDS_ANSWERS_AS_LENT,
-    FEEDS_EMITS_ALONE,
-    FEEDS_THE_NEXT_WORD,
-    FEEDS_A_TRUE_AS_ONE,
-    FEEDS_A_ZERO_WITHOUT_SIGN,
-    CALLS_ANY_POINTS_SOUND,
-    LEAVES_OUT_THE_FIRST_POINT,
-    LEAVES_OUT_THE_LAST_POINT,
-    LOOKS_AT_A_FREE_SLOT,
-    TAKES_SLOTS_FOR_POSITIONS,
-    TAKES_A_NAN_FOR_A_TIME,
-    REFUSES_EQUAL_NEIGHBOURS,
-    ORDERS_ZEROS_BY_THEIR_SIGN,
-    LEAVES_OUT_THE_PAIR_ACROSS_THE_TURN,
-    LEAVES_OUT_THE_PREVIOUS_TIME,
-    REFUSES_A_POINT_AT_THE_PREVIOUS_TIME,
-    TAKES_POINTS_BEFORE_THE_FIRST_TICK,
-    EMITS_SOUND_RINGS_ALONE,
-    UPDATES_SOUND_RINGS_ALONE,
-    DECODES_SOUND_RINGS_ALONE,
-    STORES_A_LATER_POINT,
-    SLIPS
-};
 
 /* The slip that the library has. */
 static int chosen_slip(void) {
@@ -81,7 +20,7 @@ static int chosen_slip(void) {
     }
     return chosen;
 }
-static int has(enum slip slip) { return chosen_slip() == (int)slip; }
+int has(enum slip slip) { return chosen_slip() == (int)slip; }
 
 /* The library's own call and the one in its place, by the linker's names. */
 #define PAIR(name) __typeof__(name) __real_##name, __wrap_##name
@@ -98,7 +37,7 @@ PAIR(oven_sheet_tick);
 
 /* How many settings a block has, and how many words its region. */
 static size_t settings_of(uint64_t block) {
-    static const size_t counts[] = {OVEN_PID_SETTINGS, OVEN_PID_SETTINGS, 1, 1, 2, 2, 1};
+    static const size_t counts[] = {OVEN_PID_SETTINGS, OVEN_PID_SETTINGS, 1, 1, 2, 2, 1, OVEN_LOGICAL_VARIABLE_PULSE_SETTINGS};
     return counts[block];
 }
 static size_t length_of(uint64_t block, const uint64_t *s) { return __real_oven_length(block, s, settings_of(block)).length; }
@@ -106,6 +45,9 @@ static size_t length_of(uint64_t block, const uint64_t *s) { return __real_oven_
 /* The settings of a tick as the library reads them. */
 static const uint64_t *as_read(uint64_t block, const uint64_t *s, size_t ns) {
     static uint64_t read[OVEN_TRUE_DELAY_SETTINGS];
+    if (block == OVEN_LOGICAL_VARIABLE_PULSE && ns == OVEN_LOGICAL_VARIABLE_PULSE_SETTINGS) {
+        return pulse_as_read(s);
+    }
     if (!has(READS_A_SETTING_AS_1) || block != OVEN_TRUE_DELAY || ns != OVEN_TRUE_DELAY_SETTINGS) {
         return s;
     }
@@ -150,9 +92,9 @@ static int fits(const uint64_t *w, size_t nw, size_t n) {
            !(time > previous || (has(REFUSES_A_POINT_AT_THE_PREVIOUS_TIME) && time == previous));
 }
 
-/* Whether the slip is one of sound, and what it says of a moving average's region that decodes. */
+/* Whether there is no slip or one of sound, and what it says of a moving average's region that decodes. */
 static int finds_otherwise(void) {
-    return chosen_slip() >= CALLS_ANY_POINTS_SOUND && chosen_slip() <= TAKES_POINTS_BEFORE_THE_FIRST_TICK;
+    return has(NONE) || (chosen_slip() >= CALLS_ANY_POINTS_SOUND && chosen_slip() <= TAKES_POINTS_BEFORE_THE_FIRST_TICK);
 }
 static uint64_t found(const uint64_t *w, size_t nw) {
     const size_t count = w[RING_COUNT], seen = count + (has(LOOKS_AT_A_FREE_SLOT) && count < ring_slots(nw));
@@ -174,6 +116,30 @@ static void store_later(uint64_t block, uint64_t number, uint64_t *w, size_t nw)
     if (has(STORES_A_LATER_POINT) && number == OVEN_ACCEPTED && block == OVEN_MOVING_AVERAGE) {
         w[ring_place(w, nw, w[RING_COUNT] - 1)]++;
     }
+}
+
+/* ---- Pulses. */
+
+/* Whether there is no slip or one of a pulse's tick. */
+static int ticks_pulses(void) { return has(NONE) || chosen_slip() >= SAMPLES_EVERY_INPUT; }
+
+/* Whether this is then a pulse with its settings and its words. */
+static int is_own_pulse(uint64_t block, size_t ns, size_t nw) {
+    return ticks_pulses() && block == OVEN_LOGICAL_VARIABLE_PULSE && ns == OVEN_LOGICAL_VARIABLE_PULSE_SETTINGS &&
+           nw == OVEN_LOGICAL_VARIABLE_PULSE_LENGTH;
+}
+
+/* A whole tick of it. */
+static struct oven_answer tick_pulse(const uint64_t *s, uint64_t time, uint64_t ratio, uint64_t *w) {
+    const uint64_t block = OVEN_LOGICAL_VARIABLE_PULSE;
+    uint64_t after[OVEN_LOGICAL_VARIABLE_PULSE_LENGTH];
+    struct oven_answer a =
+        __real_oven_emit(block, s, OVEN_LOGICAL_VARIABLE_PULSE_SETTINGS, time, ratio, 0, 0, w, OVEN_LOGICAL_VARIABLE_PULSE_LENGTH);
+    if (a.refusal == OVEN_ACCEPTED) {
+        a.boolean = tick_own_pulse(s, time, ratio, w, after);
+        memcpy(w, after, sizeof after);
+    }
+    return a;
 }
 
 /* Reads a word, whatever the compiler thinks of it. */
@@ -213,6 +179,10 @@ struct oven_answer __wrap_oven_emit(uint64_t block, const uint64_t *s, size_t ns
     if (has(GIVES_ANOTHER_NAN) && a.real == 0x7FF8000000000000) {
         a.real |= 1;
     }
+    if (a.refusal == OVEN_ACCEPTED && is_own_pulse(block, ns, nw)) {
+        uint64_t after[OVEN_LOGICAL_VARIABLE_PULSE_LENGTH];
+        a.boolean = tick_own_pulse(s, time, first, w, after);
+    }
     if (a.refusal == OVEN_ACCEPTED && is_refused(EMITS_SOUND_RINGS_ALONE, block, s, ns, w, nw)) {
         return (struct oven_answer){OVEN_BAD_STATE, 0, 0, 0};
     }
@@ -225,6 +195,11 @@ struct oven_answer __wrap_oven_update(uint64_t block, const uint64_t *s, size_t 
     s = as_read(block, s, ns);
     if (is_refused(UPDATES_SOUND_RINGS_ALONE, block, s, ns, w, nw)) {
         return (struct oven_answer){OVEN_BAD_STATE, 0, 0, 0};
+    }
+    if (is_own_pulse(block, ns, nw)) {
+        struct oven_answer a = tick_pulse(s, time, first, w);
+        a.boolean = 0;
+        return a;
     }
     struct oven_answer a = __real_oven_update(block, s, ns, time, first, second, third, w, nw);
     if (has(COMPARES_LOW_BYTES_OF_LENGTHS) && a.refusal == OVEN_BAD_LENGTH && nw % 256 == length_of(block, s) % 256) {
@@ -251,6 +226,9 @@ struct oven_answer __wrap_oven_tick(uint64_t block, const uint64_t *s, size_t ns
         return (struct oven_answer){OVEN_TIME_RUNS_BACK, 0, 0, 0};
     }
     s = as_read(block, s, ns);
+    if (is_own_pulse(block, ns, nw)) {
+        return tick_pulse(s, time, first, w);
+    }
     struct oven_answer a = __real_oven_tick(block, s, ns, time, first, second, third, w, nw);
     lose_sign(block, a.refusal, w);
     store_later(block, a.refusal, w, nw);
@@ -270,6 +248,16 @@ uint64_t __wrap_oven_run(uint64_t block, const uint64_t *s, size_t ns, const uin
         na -= OVEN_ANSWER_WORDS;
     }
     s = as_read(block, s, ns);
+    if (is_own_pulse(block, ns, nw)) {
+        uint64_t copy[OVEN_LOGICAL_VARIABLE_PULSE_LENGTH];
+        memcpy(copy, w, sizeof copy);
+        const uint64_t refusal = __real_oven_run(block, s, ns, ticks, nt, copy, nw, answers, na);
+        for (size_t n = 0; refusal == OVEN_ACCEPTED && n < nt; n += OVEN_TICK_WORDS) {
+            const struct oven_answer a = tick_pulse(s, ticks[n], ticks[n + 1], w);
+            memcpy(answers + n, &a, sizeof a);
+        }
+        return refusal;
+    }
     const uint64_t number = __real_oven_run(block, s, ns, ticks, nt, w, nw, answers, na);
     const int refuses_ticks = number == OVEN_BAD_SETTING || number == OVEN_BAD_LENGTH;
     if (has(ANSWERS_A_REFUSED_RUN) && refuses_ticks) {
@@ -356,7 +344,7 @@ enum { COLUMNS = 3, ROWS_MOST = 16 };
 
 /* Whether a library with the slip takes a column of row n that names nothing. */
 static int takes(size_t n, uint64_t block, size_t place, uint64_t column) {
-    static const size_t inputs[] = {2, 3, 1, 2, 1, 1, 2};
+    static const size_t inputs[] = {2, 3, 1, 2, 1, 1, 2, 1};
     return (has(TAKES_A_ROWS_OWN_WORDS) && column < 8 + 2 * (n + 1)) ||
            (has(TAKES_A_COLUMN_THAT_IS_NOT_READ) && place >= inputs[block]) || has(STARTS_ON_ANY_COLUMNS);
 }
@@ -438,18 +426,18 @@ static void tick_rows(const uint64_t *rows, size_t nr, uint64_t time, const uint
         for (size_t n = 0; n < 2 * COLUMNS; n++) {
             in[n / COLUMNS][n % COLUMNS] = fed(words, lent, answers, row[OVEN_ROW_FIRST + n % COLUMNS], n >= COLUMNS);
         }
-        const struct oven_answer a = __real_oven_emit(block, s, ns, time, in[0][0], in[0][1], in[0][2], w, len);
-        __real_oven_update(block, s, ns, time, in[1][0], in[1][1], in[1][2], w, len);
+        const struct oven_answer a = __wrap_oven_emit(block, s, ns, time, in[0][0], in[0][1], in[0][2], w, len);
+        __wrap_oven_update(block, s, ns, time, in[1][0], in[1][1], in[1][2], w, len);
         own[0] = block <= OVEN_TIMER_ACCUMULATING ? a.real : a.boolean;
         own[1] = block == OVEN_TIMER_ACCUMULATING ? a.boolean : 0;
         w += len;
     }
 }
 
-/* Whether the library feeds its rows otherwise. */
-static int feeds_wrongly(void) {
+/* Whether rows are fed and ticked here. */
+static int feeds_rows(void) {
     return has(FEEDS_ANSWERS_AS_LENT) || has(FEEDS_EMITS_ALONE) || has(FEEDS_THE_NEXT_WORD) || has(FEEDS_A_TRUE_AS_ONE) ||
-           has(FEEDS_A_ZERO_WITHOUT_SIGN);
+           has(FEEDS_A_ZERO_WITHOUT_SIGN) || ticks_pulses();
 }
 
 /* A tick of a sheet whose rows are fed as the slip has it. */
@@ -474,7 +462,7 @@ struct oven_sheet_answer __wrap_oven_sheet_tick(const uint64_t *rows, size_t nr,
     if (has(REFUSES_THE_ROW_ABOVE) && reads_above(rows, nr)) {
         return (struct oven_sheet_answer){OVEN_BAD_SHEET, 0, 0};
     }
-    struct oven_sheet_answer a = (feeds_wrongly() ? tick_fed : __real_oven_sheet_tick)(rows, nr, time, words, w, nw, answers, na);
+    struct oven_sheet_answer a = (feeds_rows() ? tick_fed : __real_oven_sheet_tick)(rows, nr, time, words, w, nw, answers, na);
     a = take_more(a, rows, nr, time, words, w, nw, answers, na);
     a = take_columns(a, rows, nr, time, words, w, nw, answers, na);
     if (has(UPDATES_BEFORE_IT_EMITS) && a.refusal == OVEN_ACCEPTED) {

@@ -23,13 +23,14 @@ extern "C" {
 
 /* ---- Blocks, with the inputs and the outputs of a tick. An input that a block lacks may be any word. */
 enum oven_block {
-    OVEN_PID = 0,                 /* setpoint, measurement: real */
-    OVEN_PID_WITH_RESET = 1,      /* setpoint, measurement, trigger: real */
-    OVEN_MOVING_AVERAGE = 2,      /* real: real */
-    OVEN_TIMER_ACCUMULATING = 3,  /* input, reset: real (the total), boolean (passed) */
-    OVEN_TRUE_DELAY = 4,          /* input: boolean */
-    OVEN_TRUE_FALSE_HOLD = 5,     /* input: boolean */
-    OVEN_TRUE_HOLD_WITH_RESET = 6 /* input, clear: boolean */
+    OVEN_PID = 0,                   /* setpoint, measurement: real */
+    OVEN_PID_WITH_RESET = 1,        /* setpoint, measurement, trigger: real */
+    OVEN_MOVING_AVERAGE = 2,        /* real: real */
+    OVEN_TIMER_ACCUMULATING = 3,    /* input, reset: real (the total), boolean (passed) */
+    OVEN_TRUE_DELAY = 4,            /* input: boolean */
+    OVEN_TRUE_FALSE_HOLD = 5,       /* input: boolean */
+    OVEN_TRUE_HOLD_WITH_RESET = 6,  /* input, clear: boolean */
+    OVEN_LOGICAL_VARIABLE_PULSE = 7 /* duty ratio, a real from 0 to 1: boolean */
 };
 
 /* The controller's types. */
@@ -39,7 +40,7 @@ enum oven_type { OVEN_TYPE_P = 0, OVEN_TYPE_PI = 1, OVEN_TYPE_PD = 2, OVEN_TYPE_
 enum oven_refusal {
     OVEN_ACCEPTED = 0,
     OVEN_BAD_SHEET = 1,      /* of a sheet: no rows or more than 16, or a column that names no input and no answer further up */
-    OVEN_BAD_SETTING = 2,    /* a real setting is a NaN or infinite */
+    OVEN_BAD_SETTING = 2,    /* a real setting is a NaN or infinite, or a variable pulse's lies outside its limits */
     OVEN_BAD_LENGTH = 3,     /* the region has another number of words than the state, or a sheet's states together */
     OVEN_BAD_SPACE = 4,      /* of a sheet: the answers are not two words for each row */
     OVEN_BAD_TIME = 5,       /* the time is a NaN or infinite */
@@ -84,7 +85,16 @@ enum oven_refusal {
 #define OVEN_TRUE_HOLD_WITH_RESET_DURATION 0
 #define OVEN_TRUE_HOLD_WITH_RESET_SETTINGS 1
 
-/* ---- The places in a row of a sheet, and its words: a controller's thirteen settings, or another block's one or two and
+/* A variable pulse is true for the share u of each cycle, by the u of the present tick, and false for the rest. Cycles are counted
+ * from the first tick, and anew from a tick whose u lies further than delta_u from the sampled one, which it then replaces. They
+ * are as long as the period, but at least 2.02 times the minimum hold. A u of 0 or less, a NaN and an infinity ask for false, a
+ * u of 1 or more for true. The output changes at ticks alone, and not before it has lasted for the minimum hold. */
+#define OVEN_LOGICAL_VARIABLE_PULSE_PERIOD 0              /* seconds, any finite number */
+#define OVEN_LOGICAL_VARIABLE_PULSE_DELTA_U 1             /* from 0.01 to 0.5, else refusal 2 */
+#define OVEN_LOGICAL_VARIABLE_PULSE_MIN_TRUE_FALSE_HOLD 2 /* seconds, at least 1, else refusal 2 */
+#define OVEN_LOGICAL_VARIABLE_PULSE_SETTINGS 3
+
+/* ---- The places in a row of a sheet, and its words: a controller's thirteen settings, or another block's one to three and
  * then words that are not read. */
 #define OVEN_ROW_BLOCK 0
 #define OVEN_ROW_FIRST 1  /* the column of the first input */
@@ -135,6 +145,7 @@ enum oven_refusal {
 #define OVEN_TRUE_DELAY_LENGTH 4
 #define OVEN_TRUE_FALSE_HOLD_LENGTH 3
 #define OVEN_TRUE_HOLD_WITH_RESET_LENGTH 3
+#define OVEN_LOGICAL_VARIABLE_PULSE_LENGTH 5
 
 /* ---- The places of a decoded state's words. After a block's last come zeros. */
 
@@ -166,6 +177,12 @@ enum oven_refusal {
 #define OVEN_HOLD_STATE_HELD 0
 #define OVEN_HOLD_STATE_TIMER 1
 #define OVEN_HOLD_STATE_PREVIOUS_TIME 2
+
+#define OVEN_LOGICAL_VARIABLE_PULSE_STATE_SAMPLED_U 0
+#define OVEN_LOGICAL_VARIABLE_PULSE_STATE_CYCLE_START 1
+#define OVEN_LOGICAL_VARIABLE_PULSE_STATE_HELD 2
+#define OVEN_LOGICAL_VARIABLE_PULSE_STATE_TIMER 3
+#define OVEN_LOGICAL_VARIABLE_PULSE_STATE_PREVIOUS_TIME 4
 
 /* The word of a previous time that is unset: no tick was stored yet. */
 #define OVEN_UNSET UINT64_MAX

@@ -24,6 +24,7 @@ BLOCKS = {
     "TrueDelay": Block(items("delay_time delay_on_init:b"), items("u:b"), items("y:b")),
     "TrueFalseHold": Block(items("true_hold_duration false_hold_duration"), items("u:b"), items("y:b")),
     "TrueHoldWithReset": Block(items("duration"), items("u:b clr:b"), items("y:b")),
+    "LogicalVariablePulse": Block(items("period delta_u min_true_false_hold"), items("u"), items("y:b")),
 }
 
 

@@ -4,6 +4,8 @@ use std::fmt::Write as _;
 use std::path::{Path, PathBuf};
 use std::{env, fs};
 
+#[path = "src/pulse_table.rs"]
+mod pulse_table;
 #[path = "src/sheet_table.rs"]
 mod sheet_table;
 #[path = "src/sound_table.rs"]
@@ -11,6 +13,7 @@ mod sound_table;
 #[allow(dead_code)]
 #[path = "src/table.rs"]
 mod table;
+use pulse_table::PULSE_SLIPS;
 use sheet_table::SHEET_SLIPS;
 use sound_table::{REFUSING_SLIPS, SOUND_SLIPS};
 use table::{SLIPS, Slip};
@@ -80,13 +83,14 @@ fn sheets(out: &Path) -> String {
 
 fn main() {
     println!("cargo:rerun-if-changed={MODEL}");
-    let tables = ["src/table.rs", "src/sound_table.rs", "src/sheet_table.rs"];
-    for file in [&tables[..], &["build.rs"]].concat() {
-        println!("cargo:rerun-if-changed={file}");
+    for table in ["table", "pulse_table", "sound_table", "sheet_table"] {
+        println!("cargo:rerun-if-changed=src/{table}.rs");
     }
+    println!("cargo:rerun-if-changed=build.rs");
     let out = PathBuf::from(env::var("OUT_DIR").expect("cargo names the folder"));
     let text = [
         models(&out, &SLIPS, "CALLS", ALL),
+        models(&out, &PULSE_SLIPS, "PULSE_CALLS", ALL),
         models(&out, &SOUND_SLIPS, "SOUND_CALLS", SOUND),
         models(&out, &REFUSING_SLIPS, "REFUSING_CALLS", ALL),
         sheets(&out),

@@ -25,5 +25,5 @@ use Rattle.bench_table.specs.Trials.{answersTo, answersFrom, saidBy, all
 use Rattle.bench_table.specs.Table.{table}
 
 pub bench-table : allSaid table ≡ allDue table
-unfolding ieee.ofBits ieee.toBits ieee.eq ieee.lt ieee.le ieee.add ieee.sub ieee.mul ieee.div ieee.round ieee.toUnsigned ieee.ofInt rounding.whole previousOf leaf.accumulated leaf.positiveDuration leaf.raisedTo answer.accept answer.formRefusal answer.lengthOf answer.refusalOf call.lengthAnswer call.tickRefusal call.emitAnswer call.updateAnswer call.tickAnswer call.updatedWords steppedMachine delay.advance delay.next delay.outputAndTimer delay.stateOf delay.wordsOf hold.stateOf hold.wordsOf false-hold.advance false-hold.flips false-hold.next false-hold.outputAndTimer false-hold.required settings.effective settings.eps settings.least settings.settingsAccepted limits.clamp limits.limit recurrence.derivative recurrence.error recurrence.integral recurrence.integralRate recurrence.nextIntegrator recurrence.nextState recurrence.proportional recurrence.solvedBack recurrence.stateAfter recurrence.termsOf pid.heard pid.stateOf pid.wordsOf window.deltaEff window.geometryOf window.slotCount window.slotsOf mean.divisor ring.edgeOf ring.expiredOf ring.leading ring.muPlace ring.pointAt ring.slotOf ring.timeAt ring.timePlace ring.timeWord stored.isCrowded stored.muAt stored.muFrom stored.placeOf stored.pruned stored.written average.outputOf average.placeAt average.ringAt average.warningOf average.afterOf average.decodable average.fresh average.machineFor average.muNow average.startOf average.stateOf average.stepOf machineOf inputsOf sheet.rowAtFault sheet.startNumber sheet.startRow sheet.tickNumber sheet.tickSaid answersTo answersFrom saidBy allSaid allDue
+unfolding ieee.ofBits ieee.toBits ieee.eq ieee.lt ieee.le ieee.add ieee.sub ieee.mul ieee.div ieee.round ieee.toUnsigned ieee.ofInt rounding.whole previousOf leaf.accumulated leaf.positiveDuration leaf.raisedTo answer.accept answer.formRefusal answer.lengthOf answer.refusalOf call.lengthAnswer call.tickRefusal call.emitAnswer call.updateAnswer call.tickAnswer call.updatedWords steppedMachine delay.advance delay.next delay.outputAndTimer delay.stateOf delay.wordsOf hold.flips hold.outputAndTimer hold.stateOf hold.wordsOf false-hold.advance false-hold.next false-hold.required settings.effective settings.eps settings.least settings.settingsAccepted limits.clamp limits.limit recurrence.derivative recurrence.error recurrence.integral recurrence.integralRate recurrence.nextIntegrator recurrence.nextState recurrence.proportional recurrence.solvedBack recurrence.stateAfter recurrence.termsOf pid.heard pid.stateOf pid.wordsOf window.deltaEff window.geometryOf window.slotCount window.slotsOf mean.divisor ring.edgeOf ring.expiredOf ring.leading ring.muPlace ring.pointAt ring.slotOf ring.timeAt ring.timePlace ring.timeWord stored.isCrowded stored.muAt stored.muFrom stored.placeOf stored.pruned stored.written average.outputOf average.placeAt average.ringAt average.warningOf average.afterOf average.decodable average.fresh average.machineFor average.muNow average.startOf average.stateOf average.stepOf machineOf inputsOf sheet.rowAtFault sheet.startNumber sheet.startRow sheet.tickNumber sheet.tickSaid answersTo answersFrom saidBy allSaid allDue
 bench-table = refl

@@ -1,4 +1,4 @@
--- What a block's own call says of a region, said of one of seven. Assumes nothing.
+-- What a block's own call says of a region, said of one of eight. Assumes nothing.
 use mathlib.Core.Path.{_≡_, refl}
 use mathlib.Core.List.{List}
 use Prim.Native.Nat.{ℕ, zero, suc}

@@ -13,7 +13,7 @@ use Rattle.dynamics.proofs.Accepted.{accept-ap, accept-same, accept-const}
 use Rattle.moving_average.specs.MovingAverage.{machineFor}
 use Rattle.blocks.specs.Block.{machineOf, Hands, real, boolean, both, outputsOf}
 use Rattle.blocks.specs.declared.block.Block.{Block}
-use Rattle.blocks.specs.declared.block.Block.the-variants.{Pid, PidWithReset, MovingAverage, TimerAccumulating, TrueDelay, TrueFalseHold, TrueHoldWithReset}
+use Rattle.blocks.specs.declared.block.Block.the-variants.{Pid, PidWithReset, MovingAverage, TimerAccumulating, TrueDelay, TrueFalseHold, TrueHoldWithReset, LogicalVariablePulse}
 
 -- what the outputs that a block has say of those that it lacks
 abbrev pub Lacks : Hands → Answer → Type 0
@@ -42,3 +42,4 @@ lacking (TimerAccumulating t) time i w = refl
 lacking (TrueDelay d on-init) time i w = no-real (machineOf (TrueDelay d on-init)) time i w refl
 lacking (TrueFalseHold long-true long-false) time i w = no-real (machineOf (TrueFalseHold long-true long-false)) time i w refl
 lacking (TrueHoldWithReset duration) time i w = no-real (machineOf (TrueHoldWithReset duration)) time i w refl
+lacking (LogicalVariablePulse period delta least) time i w = no-real (machineOf (LogicalVariablePulse period delta least)) time i w refl

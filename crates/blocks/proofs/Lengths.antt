@@ -27,9 +27,10 @@ use Rattle.timer_accumulating.proofs.Decoding as accumulating
 use Rattle.true_delay.proofs.Decoding as delay
 use Rattle.true_false_hold.proofs.Decoding as false-hold
 use Rattle.true_hold_with_reset.proofs.Decoding as reset-hold
+use Rattle.logical_variable_pulse.proofs.Decoding.{pulse}
 use Rattle.blocks.specs.Block.{machineOf, fresh}
 use Rattle.blocks.specs.declared.block.Block.{Block}
-use Rattle.blocks.specs.declared.block.Block.the-variants.{Pid, PidWithReset, MovingAverage, TimerAccumulating, TrueDelay, TrueFalseHold, TrueHoldWithReset}
+use Rattle.blocks.specs.declared.block.Block.the-variants.{Pid, PidWithReset, MovingAverage, TimerAccumulating, TrueDelay, TrueFalseHold, TrueHoldWithReset, LogicalVariablePulse}
 
 -- a machine's words are as many as it says, and few
 pub record Measured (M : Machine) : Type 0 where
@@ -67,6 +68,7 @@ measured (TimerAccumulating t) = stepped accumulating.timer (record { t = t }) (
 measured (TrueDelay time on-init) = stepped delay.timer (record { «delay_time» = time; «delay_on_init» = on-init }) (lit≤ tt)
 measured (TrueFalseHold long-true long-false) = stepped false-hold.hold (record { «true_hold_duration» = long-true; «false_hold_duration» = long-false }) (lit≤ tt)
 measured (TrueHoldWithReset duration) = stepped reset-hold.hold (record { duration = duration }) (lit≤ tt)
+measured (LogicalVariablePulse period delta least) = stepped pulse (record { period = period; «delta_u» = delta; «min_true_false_hold» = least }) (lit≤ tt)
 
 -- ---- what a start and an update leave has the region's length, refused or not
 accept-length : (n : ℕ) (v w : List ℕ) → (n ≡ 0 → length v ≡ length w) → length (accept n v w) ≡ length w

@@ -1,4 +1,4 @@
--- Laws of the choice over the seven blocks.
+-- Laws of the choice over the eight blocks.
 pub mod Decoding
 pub mod Sounds
 pub mod OneResult

@@ -13,7 +13,7 @@ use Rattle.blocks.specs.Block.{numberOf}
 use Rattle.blocks.specs.Named.{named, namesController, configOf, namedBy}
 use Rattle.blocks.specs.Wiping.{SettingsF64}
 use Rattle.blocks.specs.declared.block.Block.{Block}
-use Rattle.blocks.specs.declared.block.Block.the-variants.{Pid, PidWithReset, MovingAverage, TimerAccumulating, TrueDelay, TrueFalseHold, TrueHoldWithReset}
+use Rattle.blocks.specs.declared.block.Block.the-variants.{Pid, PidWithReset, MovingAverage, TimerAccumulating, TrueDelay, TrueFalseHold, TrueHoldWithReset, LogicalVariablePulse}
 use Rattle.blocks.specs.declared.named.Named.{Named}
 use Rattle.blocks.specs.declared.named.Named.the-variants.{Nothing}
 use Rattle.blocks.specs.declared.named.Named.the-variants as variant
@@ -34,8 +34,8 @@ given : (are : Bool) (c : Block) {b : Block} → named are c ≡ variant.Block b
 given true c e = ap (blockOr c) e
 given false c e = absurd (no-block e)
 
--- a number above 6 names nothing
-pub above : (n : ℕ) (w : List ℕ) → 6 < n → namedBy n w ≡ Nothing
+-- a number above 7 names nothing
+pub above : (n : ℕ) (w : List ℕ) → 7 < n → namedBy n w ≡ Nothing
 unfolding namedBy
 above n w l =
     simp (
@@ -46,13 +46,15 @@ above n w l =
       ne-eqb n 4 (λ z. omega (arith, l, z)),
       ne-eqb n 5 (λ z. omega (arith, l, z)),
       ne-eqb n 6 (λ z. omega (arith, l, z)),
+      ne-eqb n 7 (λ z. omega (arith, l, z)),
     )
 
 -- what is so of each block that words can be the settings of is so of the one that they name
 module _ (P : ℕ → Block → Type 0) (w : List ℕ)
     (pid : P 0 (Pid (configOf w))) (with-reset : P 1 (PidWithReset (configOf w))) (average : P 2 (MovingAverage (realOf (getD w 0 0))))
     (accumulating : P 3 (TimerAccumulating (realOf (getD w 0 0)))) (delay : P 4 (TrueDelay (realOf (getD w 0 0)) (flagOf (getD w 1 0))))
-    (false-hold : P 5 (TrueFalseHold (realOf (getD w 0 0)) (realOf (getD w 1 0)))) (reset-hold : P 6 (TrueHoldWithReset (realOf (getD w 0 0)))) where
+    (false-hold : P 5 (TrueFalseHold (realOf (getD w 0 0)) (realOf (getD w 1 0)))) (reset-hold : P 6 (TrueHoldWithReset (realOf (getD w 0 0))))
+    (pulse : P 7 (LogicalVariablePulse (realOf (getD w 0 0)) (realOf (getD w 1 0)) (realOf (getD w 2 0)))) where
   each : (n : ℕ) (b : Block) → namedBy n w ≡ variant.Block b → P n b
   unfolding namedBy
   each zero b e = subst (P 0) (given (namesController w) _ e) pid
@@ -62,12 +64,13 @@ module _ (P : ℕ → Block → Type 0) (w : List ℕ)
   each (suc (suc (suc (suc zero)))) b e = subst (P 4) (given (eqb (length w) 2) _ e) delay
   each (suc (suc (suc (suc (suc zero))))) b e = subst (P 5) (given (eqb (length w) 2) _ e) false-hold
   each (suc (suc (suc (suc (suc (suc zero)))))) b e = subst (P 6) (given (eqb (length w) 1) _ e) reset-hold
-  each (suc (suc (suc (suc (suc (suc (suc n))))))) b e = absurd (no-block (sym (above (suc (suc (suc (suc (suc (suc (suc n))))))) w (omega arith)) ∙ e))
+  each (suc (suc (suc (suc (suc (suc (suc zero))))))) b e = subst (P 7) (given (eqb (length w) 3) _ e) pulse
+  each (suc (suc (suc (suc (suc (suc (suc (suc n)))))))) b e = absurd (no-block (sym (above (suc (suc (suc (suc (suc (suc (suc (suc n)))))))) w (omega arith)) ∙ e))
 
 pub numbered : (n : ℕ) (w : List ℕ) (b : Block) → namedBy n w ≡ variant.Block b → numberOf b ≡ n
-numbered n w = each (λ m b. numberOf b ≡ m) w refl refl refl refl refl refl refl n
+numbered n w = each (λ m b. numberOf b ≡ m) w refl refl refl refl refl refl refl refl n
 
 -- a real that a word means is an f64
 pub settings-f64 : (n : ℕ) (w : List ℕ) (b : Block) → namedBy n w ≡ variant.Block b → SettingsF64 b
 unfolding configOf
-settings-f64 n w = each (λ m b. SettingsF64 b) w tt (real-fits (getD w 9 0)) tt tt (real-fits (getD w 0 0)) tt tt n
+settings-f64 n w = each (λ m b. SettingsF64 b) w tt (real-fits (getD w 9 0)) tt tt (real-fits (getD w 0 0)) tt tt tt n

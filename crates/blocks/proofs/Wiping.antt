@@ -20,7 +20,7 @@ use Rattle.blocks.specs.Named.{namedBy}
 use Rattle.blocks.specs.Decoded.{stateOf, zeros}
 use Rattle.blocks.specs.Wiping.{isPi, wipeable, answersWiping, accountOf, SettingsF64}
 use Rattle.blocks.specs.declared.block.Block.{Block}
-use Rattle.blocks.specs.declared.block.Block.the-variants.{Pid, PidWithReset, MovingAverage, TimerAccumulating, TrueDelay, TrueFalseHold, TrueHoldWithReset}
+use Rattle.blocks.specs.declared.block.Block.the-variants.{Pid, PidWithReset, MovingAverage, TimerAccumulating, TrueDelay, TrueFalseHold, TrueHoldWithReset, LogicalVariablePulse}
 use Rattle.blocks.specs.declared.named.Named.the-variants as variant
 use Rattle.blocks.proofs.Names.{settings-f64}
 
@@ -48,6 +48,7 @@ keeps (TrueFalseHold long-true long-false) w f = absurd (true≢false (sym w))
 keeps (TrueHoldWithReset duration) w f =
     let b : ResetHold = record { duration = duration } in
     record { good = reset-hold.Good b; kept = reset-hold.kept b }
+keeps (LogicalVariablePulse period delta least) w f = absurd (true≢false (sym w))
 
 -- a wiping tick leaves its own words
 pub wiped-words : (b : Block) → wipeable b ≡ true → WipedWords (machineOf b) (accountOf b)
@@ -59,6 +60,7 @@ wiped-words (TimerAccumulating t) w = accumulating.wiped-words (record { t = t }
 wiped-words (TrueDelay time on-init) w = delay.wiped-words (record { «delay_time» = time; «delay_on_init» = on-init })
 wiped-words (TrueFalseHold long-true long-false) w = absurd (true≢false (sym w))
 wiped-words (TrueHoldWithReset duration) w = reset-hold.wiped-words (record { duration = duration })
+wiped-words (LogicalVariablePulse period delta least) w = absurd (true≢false (sym w))
 
 -- ---- whatever the settings are
 module _ (b : Block) (wipes : wipeable b ≡ true) where
@@ -83,6 +85,7 @@ wiping-answer (TimerAccumulating t) w = accumulating.wiping-answer (record { t =
 wiping-answer (TrueDelay time on-init) w = delay.wiping-answer (record { «delay_time» = time; «delay_on_init» = on-init })
 wiping-answer (TrueFalseHold long-true long-false) w = absurd (true≢false (sym w))
 wiping-answer (TrueHoldWithReset duration) w = reset-hold.wiping-answer (record { duration = duration })
+wiping-answer (LogicalVariablePulse period delta least) w = absurd (true≢false (sym w))
 
 -- ---- settings that are f64
 module _ (b : Block) (wipes : wipeable b ≡ true) (f64 : SettingsF64 b) where

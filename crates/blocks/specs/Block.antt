@@ -1,4 +1,4 @@
--- One choice over the seven blocks. Definitions only.
+-- One choice over the eight blocks. Definitions only.
 use Prim.Native.Nat.{ℕ}
 use mathlib.Core.Bool.{true, false}
 use mathlib.Core.List.{List}
@@ -13,8 +13,9 @@ use Rattle.timer_accumulating.specs.TimerAccumulating as accumulating
 use Rattle.true_delay.specs.TrueDelay as delay
 use Rattle.true_false_hold.specs.TrueFalseHold as false-hold
 use Rattle.true_hold_with_reset.specs.TrueHoldWithReset as reset-hold
+use Rattle.logical_variable_pulse.specs.LogicalVariablePulse as pulse
 use Rattle.blocks.specs.declared.block.Block.{Block}
-use Rattle.blocks.specs.declared.block.Block.the-variants.{Pid, PidWithReset, MovingAverage, TimerAccumulating, TrueDelay, TrueFalseHold, TrueHoldWithReset}
+use Rattle.blocks.specs.declared.block.Block.the-variants.{Pid, PidWithReset, MovingAverage, TimerAccumulating, TrueDelay, TrueFalseHold, TrueHoldWithReset, LogicalVariablePulse}
 use Rattle.blocks.specs.declared.block.Tick.{Tick}
 use Rattle.blocks.specs.declared.block.OutputWords.{OutputWords}
 
@@ -27,6 +28,7 @@ machineOf (TimerAccumulating t) = accumulating.machine (record { t = t })
 machineOf (TrueDelay time on-init) = delay.machine (record { «delay_time» = time; «delay_on_init» = on-init })
 machineOf (TrueFalseHold long-true long-false) = false-hold.machine (record { «true_hold_duration» = long-true; «false_hold_duration» = long-false })
 machineOf (TrueHoldWithReset duration) = reset-hold.machine (record { duration = duration })
+machineOf (LogicalVariablePulse period delta least) = pulse.machine (record { period = period; «delta_u» = delta; «min_true_false_hold» = least })
 
 -- a block reads its inputs from a tick's first words
 unfoldable pub inputsOf : Tick → Inputs
@@ -34,7 +36,7 @@ inputsOf k = record { first = getD (k .words) 0 0; second = getD (k .words) 1 0;
 
 -- ---- what a sheet, a session and a record know of a block
 
--- its number, in document 01's order
+-- its number, in document 01's order, the pulse last
 abbrev pub numberOf : Block → ℕ
 numberOf (Pid s) = 0
 numberOf (PidWithReset s) = 1
@@ -43,6 +45,7 @@ numberOf (TimerAccumulating t) = 3
 numberOf (TrueDelay time on-init) = 4
 numberOf (TrueFalseHold long-true long-false) = 5
 numberOf (TrueHoldWithReset duration) = 6
+numberOf (LogicalVariablePulse period delta least) = 7
 
 -- which outputs it has
 pub data Hands : Type 0 where
@@ -56,6 +59,7 @@ outputsOf (TimerAccumulating t) = both
 outputsOf (TrueDelay time on-init) = boolean
 outputsOf (TrueFalseHold long-true long-false) = boolean
 outputsOf (TrueHoldWithReset duration) = boolean
+outputsOf (LogicalVariablePulse period delta least) = boolean
 
 -- an answer as two words: the real or boolean output, then the second output or 0
 abbrev pub handed : Hands → Answer → OutputWords

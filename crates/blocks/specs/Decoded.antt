@@ -9,6 +9,7 @@ use Rattle.moving_average.specs.MovingAverage as average
 use Rattle.timer_accumulating.specs.TimerAccumulating as accumulating
 use Rattle.true_delay.specs.TrueDelay as delay
 use Rattle.hold.specs.Hold as holds
+use Rattle.logical_variable_pulse.specs.LogicalVariablePulse as pulse
 use Rattle.pid.specs.declared.state.Decoded.the-variants as controller-variant
 use Rattle.pid.specs.declared.state.Decoded as controller-decoded
 use Rattle.moving_average.specs.declared.state.Decoded as average-decoded
@@ -19,8 +20,10 @@ use Rattle.true_delay.specs.declared.state.Decoded as delay-decoded
 use Rattle.true_delay.specs.declared.state.Decoded.the-variants as delay-variant
 use Rattle.hold.specs.declared.Decoded as hold-decoded
 use Rattle.hold.specs.declared.Decoded.the-variants as hold-variant
+use Rattle.logical_variable_pulse.specs.declared.state.Decoded as pulse-decoded
+use Rattle.logical_variable_pulse.specs.declared.state.Decoded.the-variants as pulse-variant
 use Rattle.blocks.specs.declared.block.Block.{Block}
-use Rattle.blocks.specs.declared.block.Block.the-variants.{Pid, PidWithReset, MovingAverage, TimerAccumulating, TrueDelay, TrueFalseHold, TrueHoldWithReset}
+use Rattle.blocks.specs.declared.block.Block.the-variants.{Pid, PidWithReset, MovingAverage, TimerAccumulating, TrueDelay, TrueFalseHold, TrueHoldWithReset, LogicalVariablePulse}
 use Rattle.blocks.specs.declared.decoded.State.{State}
 use Rattle.blocks.specs.declared.decoded.State.the-variants as state
 use Rattle.blocks.specs.declared.decoded.Decoded.{Decoded}
@@ -36,6 +39,7 @@ stateOf (TimerAccumulating t) w = state.TimerAccumulating (accumulating.stateOf 
 stateOf (TrueDelay time on-init) w = state.TrueDelay (delay.stateOf w)
 stateOf (TrueFalseHold long-true long-false) w = state.Hold (holds.stateOf w)
 stateOf (TrueHoldWithReset duration) w = state.Hold (holds.stateOf w)
+stateOf (LogicalVariablePulse period delta least) w = state.LogicalVariablePulse (pulse.stateOf w)
 
 -- its record of zeros
 unfoldable pub zeros : Block → State
@@ -46,6 +50,7 @@ zeros (TimerAccumulating t) = state.TimerAccumulating accumulating.zeros
 zeros (TrueDelay time on-init) = state.TrueDelay delay.zeros
 zeros (TrueFalseHold long-true long-false) = state.Hold holds.zeros
 zeros (TrueHoldWithReset duration) = state.Hold holds.zeros
+zeros (LogicalVariablePulse period delta least) = state.LogicalVariablePulse pulse.zeros
 
 -- by the refusal number of the call
 abbrev pub opened : Block → ℕ → List ℕ → Decoded
@@ -56,7 +61,7 @@ abbrev pub reads : Block → Decoded → Reading State
 reads b (variant.State s) = record { refusal = 0; state = s }
 reads b (Refused n) = record { refusal = n; state = zeros b }
 
--- ---- what a block's own call says, as one of seven
+-- ---- what a block's own call says, as one of eight
 
 abbrev pub ofController : controller-decoded.Decoded → Decoded
 ofController (controller-variant.State s) = variant.State (state.Controller s)
@@ -77,3 +82,7 @@ ofDelay (delay-variant.Refused n) = Refused n
 abbrev pub ofHold : hold-decoded.Decoded → Decoded
 ofHold (hold-variant.State s) = variant.State (state.Hold s)
 ofHold (hold-variant.Refused n) = Refused n
+
+abbrev pub ofPulse : pulse-decoded.Decoded → Decoded
+ofPulse (pulse-variant.State s) = variant.State (state.LogicalVariablePulse s)
+ofPulse (pulse-variant.Refused n) = Refused n

@@ -9,7 +9,7 @@ use Rattle.controller.specs.declared.config.ControllerType.{ControllerType}
 use Rattle.controller.specs.declared.config.ControllerType.the-variants as type
 use Rattle.controller.specs.declared.config.ControllerConfig.{ControllerConfig}
 use Rattle.blocks.specs.declared.block.Block.{Block}
-use Rattle.blocks.specs.declared.block.Block.the-variants.{Pid, PidWithReset, MovingAverage, TimerAccumulating, TrueDelay, TrueFalseHold, TrueHoldWithReset}
+use Rattle.blocks.specs.declared.block.Block.the-variants.{Pid, PidWithReset, MovingAverage, TimerAccumulating, TrueDelay, TrueFalseHold, TrueHoldWithReset, LogicalVariablePulse}
 use Rattle.blocks.specs.declared.named.Named.{Named}
 use Rattle.blocks.specs.declared.named.Named.the-variants.{Nothing}
 use Rattle.blocks.specs.declared.named.Named.the-variants as variant
@@ -70,7 +70,10 @@ falseHoldBy w = named (eqb (length w) 2) (TrueFalseHold (realOf (getD w 0 0)) (r
 abbrev pub resetHoldBy : List ℕ → Named
 resetHoldBy w = named (eqb (length w) 1) (TrueHoldWithReset (realOf (getD w 0 0)))
 
--- the number chooses, in document 01's order; another number names nothing
+abbrev pub pulseBy : List ℕ → Named
+pulseBy w = named (eqb (length w) 3) (LogicalVariablePulse (realOf (getD w 0 0)) (realOf (getD w 1 0)) (realOf (getD w 2 0)))
+
+-- the number chooses, in document 01's order, the pulse last; another number names nothing
 unfoldable pub namedBy : ℕ → List ℕ → Named
 namedBy n w =
     cond (eqb n 0) (pidBy w)
@@ -80,4 +83,5 @@ namedBy n w =
     (cond (eqb n 4) (delayBy w)
     (cond (eqb n 5) (falseHoldBy w)
     (cond (eqb n 6) (resetHoldBy w)
-    Nothing))))))
+    (cond (eqb n 7) (pulseBy w)
+    Nothing)))))))

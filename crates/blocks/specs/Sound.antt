@@ -6,7 +6,7 @@ use Rattle.dynamics.specs.Machine.{decodeRefusal}
 use Rattle.moving_average.specs.MovingAverage as average
 use Rattle.blocks.specs.Block.{machineOf}
 use Rattle.blocks.specs.declared.block.Block.{Block}
-use Rattle.blocks.specs.declared.block.Block.the-variants.{Pid, PidWithReset, MovingAverage, TimerAccumulating, TrueDelay, TrueFalseHold, TrueHoldWithReset}
+use Rattle.blocks.specs.declared.block.Block.the-variants.{Pid, PidWithReset, MovingAverage, TimerAccumulating, TrueDelay, TrueFalseHold, TrueHoldWithReset, LogicalVariablePulse}
 
 -- no refusal of decoding applies
 abbrev pub Decodes : Block → List ℕ → Type 0
@@ -21,3 +21,4 @@ Sound (TimerAccumulating t) w = Decodes (TimerAccumulating t) w
 Sound (TrueDelay time on-init) w = Decodes (TrueDelay time on-init) w
 Sound (TrueFalseHold long-true long-false) w = Decodes (TrueFalseHold long-true long-false) w
 Sound (TrueHoldWithReset duration) w = Decodes (TrueHoldWithReset duration) w
+Sound (LogicalVariablePulse period delta least) w = Decodes (LogicalVariablePulse period delta least) w

@@ -14,7 +14,7 @@ use Rattle.timer_accumulating.specs.Account as accumulating
 use Rattle.true_delay.specs.Account as delay
 use Rattle.true_hold_with_reset.specs.Account as reset-hold
 use Rattle.blocks.specs.declared.block.Block.{Block}
-use Rattle.blocks.specs.declared.block.Block.the-variants.{Pid, PidWithReset, MovingAverage, TimerAccumulating, TrueDelay, TrueFalseHold, TrueHoldWithReset}
+use Rattle.blocks.specs.declared.block.Block.the-variants.{Pid, PidWithReset, MovingAverage, TimerAccumulating, TrueDelay, TrueFalseHold, TrueHoldWithReset, LogicalVariablePulse}
 
 -- the blocks that a tick can wipe: three timers, and the controller with reset in PI mode
 abbrev pub isPi : ControllerType → Bool
@@ -31,6 +31,7 @@ wipeable (TimerAccumulating t) = true
 wipeable (TrueDelay time on-init) = true
 wipeable (TrueFalseHold long-true long-false) = false
 wipeable (TrueHoldWithReset duration) = true
+wipeable (LogicalVariablePulse period delta least) = false
 
 -- those whose answer on a wiping tick tells nothing of the past: the timers; a controller's emit answers from the integrator before its tick
 abbrev pub answersWiping : Block → Bool
@@ -41,6 +42,7 @@ answersWiping (TimerAccumulating t) = true
 answersWiping (TrueDelay time on-init) = true
 answersWiping (TrueFalseHold long-true long-false) = false
 answersWiping (TrueHoldWithReset duration) = true
+answersWiping (LogicalVariablePulse period delta least) = false
 
 -- of a block that nothing wipes no account is given
 abbrev none : Account
@@ -55,6 +57,7 @@ accountOf (TimerAccumulating t) = accumulating.account (record { t = t })
 accountOf (TrueDelay time on-init) = delay.account (record { «delay_time» = time; «delay_on_init» = on-init })
 accountOf (TrueFalseHold long-true long-false) = none
 accountOf (TrueHoldWithReset duration) = reset-hold.account (record { duration = duration })
+accountOf (LogicalVariablePulse period delta least) = none
 
 -- the settings that a history's reals come from are f64, as every setting that a call brings is
 abbrev pub SettingsF64 : Block → Type 0
@@ -65,3 +68,4 @@ SettingsF64 (TimerAccumulating t) = T true
 SettingsF64 (TrueDelay time on-init) = T (fits binary64 time)
 SettingsF64 (TrueFalseHold long-true long-false) = T true
 SettingsF64 (TrueHoldWithReset duration) = T true
+SettingsF64 (LogicalVariablePulse period delta least) = T true

@@ -7,7 +7,7 @@ use reals::word_of_flag;
 ghost use mathlib.Core.Path.{_≡_};
 ghost use Rattle.blocks.specs.Block.{real, boolean, both, handed, inputsOf, answerWords};
 
-// One of seven, each with its own numbers.
+// One of eight, each with its own numbers.
 pub enum Block {
     Pid(ControllerConfig),
     PidWithReset(ControllerConfig),
@@ -27,6 +27,11 @@ pub enum Block {
     },
     TrueHoldWithReset {
         duration: f64,
+    },
+    LogicalVariablePulse {
+        period: f64,
+        delta_u: f64,
+        min_true_false_hold: f64,
     },
 }
 
@@ -92,5 +97,6 @@ pub fn answer_words(block: Block, answer: Answer) -> OutputWords
         Block::TrueDelay { .. } => boolean_words(answer),
         Block::TrueFalseHold { .. } => boolean_words(answer),
         Block::TrueHoldWithReset { .. } => boolean_words(answer),
+        Block::LogicalVariablePulse { .. } => boolean_words(answer),
     }
 }

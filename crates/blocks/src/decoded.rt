@@ -1,6 +1,6 @@
 // A region taken apart, whichever block it is of.
 ghost use mathlib.Core.Path.{_≡_};
-ghost use Rattle.blocks.specs.Decoded.{ofController, ofAverage, ofAccumulating, ofDelay, ofHold};
+ghost use Rattle.blocks.specs.Decoded.{ofController, ofAverage, ofAccumulating, ofDelay, ofHold, ofPulse};
 
 // The state record of a block: both controllers have one, and so have both holds.
 pub enum State {
@@ -9,6 +9,7 @@ pub enum State {
     TimerAccumulating(timer_accumulating::State),
     TrueDelay(true_delay::State),
     Hold(hold::State),
+    LogicalVariablePulse(logical_variable_pulse::State),
 }
 
 // Its state, or why it has none.
@@ -60,5 +61,14 @@ pub(crate) fn hold_decoded(d: hold::Decoded) -> Decoded
     match d {
         hold::Decoded::State(s) => Decoded::State(State::Hold(s)),
         hold::Decoded::Refused(n) => Decoded::Refused(n),
+    }
+}
+
+pub(crate) fn pulse_decoded(d: logical_variable_pulse::Decoded) -> Decoded
+    ensures { λ r. ⌜ r ≡ ofPulse d ⌝ }
+{
+    match d {
+        logical_variable_pulse::Decoded::State(s) => Decoded::State(State::LogicalVariablePulse(s)),
+        logical_variable_pulse::Decoded::Refused(n) => Decoded::Refused(n),
     }
 }

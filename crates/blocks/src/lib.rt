@@ -1,4 +1,4 @@
-// One choice over the seven blocks, and their calls. Each call is told the block first; a block reads its inputs from the tick's first words.
+// One choice over the eight blocks, and their calls. Each call is told the block first; a block reads its inputs from the tick's first words.
 mod block;
 mod decoded;
 mod named;
@@ -15,8 +15,10 @@ use decoded::average_decoded;
 use decoded::controller_decoded;
 use decoded::delay_decoded;
 use decoded::hold_decoded;
+use decoded::pulse_decoded;
 use dynamics::Answer;
 use dynamics::Length;
+use logical_variable_pulse::LogicalVariablePulse;
 use moving_average::MovingAverage;
 pub use named::CONTROLLER_SETTINGS;
 pub use named::Named;
@@ -56,6 +58,15 @@ pub fn state_length(block: Block) -> Length
         }),
         Block::TrueHoldWithReset { duration } =>
             true_hold_with_reset::state_length(TrueHoldWithReset { duration }),
+        Block::LogicalVariablePulse {
+            period,
+            delta_u,
+            min_true_false_hold,
+        } => logical_variable_pulse::state_length(LogicalVariablePulse {
+            period,
+            delta_u,
+            min_true_false_hold,
+        }),
     }
 }
 
@@ -95,6 +106,18 @@ pub fn start(block: Block, region: &mut [u64]) -> u64
             TrueHoldWithReset { duration },
             region,
         ),
+        Block::LogicalVariablePulse {
+            period,
+            delta_u,
+            min_true_false_hold,
+        } => logical_variable_pulse::start(
+            LogicalVariablePulse {
+                period,
+                delta_u,
+                min_true_false_hold,
+            },
+            region,
+        ),
     }
 }
 
@@ -132,6 +155,18 @@ pub fn sound(block: Block, region: &[u64]) -> bool
         ),
         Block::TrueHoldWithReset { duration } => true_hold_with_reset::sound(
             TrueHoldWithReset { duration },
+            region,
+        ),
+        Block::LogicalVariablePulse {
+            period,
+            delta_u,
+            min_true_false_hold,
+        } => logical_variable_pulse::sound(
+            LogicalVariablePulse {
+                period,
+                delta_u,
+                min_true_false_hold,
+            },
             region,
         ),
     }
@@ -175,6 +210,18 @@ pub fn decode(block: Block, region: &[u64]) -> Decoded
         )),
         Block::TrueHoldWithReset { duration } => hold_decoded(true_hold_with_reset::decode(
             TrueHoldWithReset { duration },
+            region,
+        )),
+        Block::LogicalVariablePulse {
+            period,
+            delta_u,
+            min_true_false_hold,
+        } => pulse_decoded(logical_variable_pulse::decode(
+            LogicalVariablePulse {
+                period,
+                delta_u,
+                min_true_false_hold,
+            },
             region,
         )),
     }
@@ -226,6 +273,20 @@ pub fn emit(block: Block, tick: Tick, region: &[u64]) -> Answer
         ),
         Block::TrueHoldWithReset { duration } => true_hold_with_reset::emit(
             TrueHoldWithReset { duration },
+            tick.time,
+            inputs,
+            region,
+        ),
+        Block::LogicalVariablePulse {
+            period,
+            delta_u,
+            min_true_false_hold,
+        } => logical_variable_pulse::emit(
+            LogicalVariablePulse {
+                period,
+                delta_u,
+                min_true_false_hold,
+            },
             tick.time,
             inputs,
             region,
@@ -283,6 +344,20 @@ pub fn update(block: Block, tick: Tick, region: &mut [u64]) -> Answer
             inputs,
             region,
         ),
+        Block::LogicalVariablePulse {
+            period,
+            delta_u,
+            min_true_false_hold,
+        } => logical_variable_pulse::update(
+            LogicalVariablePulse {
+                period,
+                delta_u,
+                min_true_false_hold,
+            },
+            tick.time,
+            inputs,
+            region,
+        ),
     }
 }
 
@@ -332,6 +407,20 @@ pub fn tick(block: Block, tick: Tick, region: &mut [u64]) -> Answer
         ),
         Block::TrueHoldWithReset { duration } => true_hold_with_reset::tick(
             TrueHoldWithReset { duration },
+            tick.time,
+            inputs,
+            region,
+        ),
+        Block::LogicalVariablePulse {
+            period,
+            delta_u,
+            min_true_false_hold,
+        } => logical_variable_pulse::tick(
+            LogicalVariablePulse {
+                period,
+                delta_u,
+                min_true_false_hold,
+            },
             tick.time,
             inputs,
             region,

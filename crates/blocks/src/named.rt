@@ -6,7 +6,7 @@ use dynamics::flag_at;
 use dynamics::real_at;
 use dynamics::word_at;
 ghost use mathlib.Core.Path.{_≡_};
-ghost use Rattle.blocks.specs.Named.{controllerTypeOf, namesController, configOf, pidBy, pidWithResetBy, averageBy, accumulatingBy, delayBy, falseHoldBy, resetHoldBy, namedBy};
+ghost use Rattle.blocks.specs.Named.{controllerTypeOf, namesController, configOf, pidBy, pidWithResetBy, averageBy, accumulatingBy, delayBy, falseHoldBy, resetHoldBy, pulseBy, namedBy};
 
 // How many settings a controller has.
 pub const CONTROLLER_SETTINGS: usize = 13;
@@ -136,6 +136,19 @@ fn true_hold_with_reset_of(settings: &[u64]) -> Named
     Named::Nothing
 }
 
+fn logical_variable_pulse_of(settings: &[u64]) -> Named
+    ensures { λ r. ⌜ r ≡ pulseBy (now (settings .entry)) ⌝ }
+{
+    if settings.len() == 3 {
+        return Named::Block(Block::LogicalVariablePulse {
+            period: real_at(settings, 0),
+            delta_u: real_at(settings, 1),
+            min_true_false_hold: real_at(settings, 2),
+        });
+    }
+    Named::Nothing
+}
+
 // The block of this number with these settings.
 pub fn block_of(number: u64, settings: &[u64]) -> Named
     ensures { λ r. ⌜ r ≡ namedBy number (now (settings .entry)) ⌝ }
@@ -148,6 +161,7 @@ pub fn block_of(number: u64, settings: &[u64]) -> Named
         4 => true_delay_of(settings),
         5 => true_false_hold_of(settings),
         6 => true_hold_with_reset_of(settings),
+        7 => logical_variable_pulse_of(settings),
         _ => Named::Nothing,
     }
 }

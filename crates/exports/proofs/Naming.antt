@@ -1,4 +1,4 @@
--- A row's words name a block exactly when its number is at most 6 and, of a controller, its type at most 3. Assumes nothing.
+-- A row's words name a block exactly when its number is at most 7 and, of a controller, its type at most 3. Assumes nothing.
 use Prim.Native.Nat.{ℕ, zero, suc, _≤_, _<_}
 use native.Mathlib.Omega.{arith}
 use mathlib.Core.Path.{_≡_, refl, _∙_, ap}
@@ -29,14 +29,14 @@ isRow none = false
 
 -- a number and the first word of the settings
 abbrev pub namesBlock : ℕ → ℕ → Bool
-namesBlock n type = ltb n 7 && (leb 2 n || ltb type 4)
+namesBlock n type = ltb n 8 && (leb 2 n || ltb type 4)
 
 given : (are : Bool) (b : Block) → isBlock (named are b) ≡ are
 given true b = refl
 given false b = refl
 
-too-large : (n type : ℕ) (s : List ℕ) → 6 < n → isBlock (namedBy n s) ≡ namesBlock n type
-too-large n type s h = rw (above n s h, le-ltb n 7 (omega (arith, h))) refl
+too-large : (n type : ℕ) (s : List ℕ) → 7 < n → isBlock (namedBy n s) ≡ namesBlock n type
+too-large n type s h = rw (above n s h, le-ltb n 8 (omega (arith, h))) refl
 
 -- settings of as many words as there are, or more
 module _ (s : List ℕ) (many : controllerSettings ≤ length s) where
@@ -56,7 +56,8 @@ module _ (s : List ℕ) (many : controllerSettings ≤ length s) where
   named-exactly (suc (suc (suc (suc zero)))) = given _ _ ∙ first 2 (omega arith)
   named-exactly (suc (suc (suc (suc (suc zero))))) = given _ _ ∙ first 2 (omega arith)
   named-exactly (suc (suc (suc (suc (suc (suc zero)))))) = given _ _ ∙ first 1 (omega arith)
-  named-exactly (suc (suc (suc (suc (suc (suc (suc n))))))) = too-large (suc (suc (suc (suc (suc (suc (suc n))))))) (getD s 0 0) _ (omega arith)
+  named-exactly (suc (suc (suc (suc (suc (suc (suc zero))))))) = given _ _ ∙ first 3 (omega arith)
+  named-exactly (suc (suc (suc (suc (suc (suc (suc (suc n)))))))) = too-large (suc (suc (suc (suc (suc (suc (suc (suc n)))))))) (getD s 0 0) _ (omega arith)
 
 row-by : (w : List ℕ) (b : Named) → isRow (byName b (λ x. some (rowWith w x)) none) ≡ isBlock b
 unfolding byName

@@ -26,13 +26,14 @@ use Rattle.exports.specs.declared.sheets.NamedTable.{NamedTable}
 -- its settings lie within its words
 pub few-settings : (n : ℕ) {read : ℕ} → read ≡ settingsRead n → read ≤ controllerSettings
 unfolding settingsRead
-few-settings n e = rw e (go (ltb n 2) (eqb n 4) (eqb n 5))
+few-settings n e = rw e (go (ltb n 2) (eqb n 4) (eqb n 5) (eqb n 7))
   where
-    go : (a b c : Bool) → cond a controllerSettings (cond b 2 (cond c 2 1)) ≤ controllerSettings
-    go true b c = omega arith
-    go false true c = omega arith
-    go false false true = omega arith
-    go false false false = omega arith
+    go : (a b c d : Bool) → cond a controllerSettings (cond b 2 (cond c 2 (cond d 3 1))) ≤ controllerSettings
+    go true b c d = omega arith
+    go false true c d = omega arith
+    go false false true d = omega arith
+    go false false false true = omega arith
+    go false false false false = omega arith
 
 module _ (w : List ℕ) (n : ℕ) (few : n ≡ settingsRead (getD w 0 0)) {b : Named} (reads : b ≡ namedBy (getD w 0 0) (take (settingsAt + n - settingsAt) (drop settingsAt w))) where
   row-is : rowBy w ≡ byName b (λ x. some (rowWith w x)) none

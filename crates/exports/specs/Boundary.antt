@@ -11,10 +11,11 @@ use Rattle.moving_average.specs.declared.state.State as average-state
 use Rattle.timer_accumulating.specs.declared.state.State as accumulating-state
 use Rattle.true_delay.specs.declared.state.State as delay-state
 use Rattle.hold.specs.declared.State as hold-state
+use Rattle.logical_variable_pulse.specs.declared.state.State as pulse-state
 use Rattle.blocks.specs.Block.{inputsOf}
 use Rattle.blocks.specs.declared.block.Tick.{Tick}
 use Rattle.blocks.specs.declared.decoded.State.{State}
-use Rattle.blocks.specs.declared.decoded.State.the-variants.{Controller, MovingAverage, TimerAccumulating, TrueDelay, Hold}
+use Rattle.blocks.specs.declared.decoded.State.the-variants.{Controller, MovingAverage, TimerAccumulating, TrueDelay, Hold, LogicalVariablePulse}
 use Rattle.blocks.specs.declared.decoded.Decoded.{Decoded}
 use Rattle.blocks.specs.declared.decoded.Decoded.the-variants.{Refused}
 use Rattle.blocks.specs.declared.decoded.Decoded.the-variants as variant
@@ -63,12 +64,16 @@ delayWords s = inOrder 0 (wordOf (s .timer)) (wordOfPrevious (s .previous)) (wor
 abbrev pub holdWords : hold-state.State → StateWords
 holdWords s = inOrder 0 (wordOfFlag (s .held)) (wordOf (s .timer)) (wordOfPrevious (s .previous)) 0 0 0
 
+abbrev pub pulseWords : pulse-state.State → StateWords
+pulseWords s = inOrder 0 (wordOf (s .«sampled_u»)) (wordOf (s .t0)) (wordOfFlag (s .held)) (wordOf (s .timer)) (wordOfPrevious (s .previous)) 0
+
 abbrev pub stateWords : State → StateWords
 stateWords (Controller s) = controllerWords s
 stateWords (MovingAverage s) = averageWords s
 stateWords (TimerAccumulating s) = accumulatingWords s
 stateWords (TrueDelay s) = delayWords s
 stateWords (Hold s) = holdWords s
+stateWords (LogicalVariablePulse s) = pulseWords s
 
 -- each case of decoding: its number, and the state or zeros
 abbrev pub decodedWords : Decoded → StateWords

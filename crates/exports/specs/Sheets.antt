@@ -41,9 +41,9 @@ settingsAt = 4
 abbrev pub wordsPerRow : ℕ
 wordsPerRow = settingsAt + controllerSettings
 
--- how many of its settings a block of this number reads: all of them a controller, 2 TrueDelay and TrueFalseHold, 1 the others
+-- how many of its settings a block of this number reads: all of them a controller, 2 TrueDelay and TrueFalseHold, 3 LogicalVariablePulse, 1 the others
 unfoldable pub settingsRead : ℕ → ℕ
-settingsRead n = cond (ltb n 2) controllerSettings (cond (eqb n 4) 2 (cond (eqb n 5) 2 1))
+settingsRead n = cond (ltb n 2) controllerSettings (cond (eqb n 4) 2 (cond (eqb n 5) 2 (cond (eqb n 7) 3 1)))
 
 -- the block's number, the three columns, and the settings; those that are not read may be any
 abbrev pub rowWith : List ℕ → Block → Row

@@ -87,6 +87,9 @@ fn settings_read(number: u64) -> usize
     if number == 5 {
         return 2;
     }
+    if number == 7 {
+        return 3;
+    }
     1
 }
 

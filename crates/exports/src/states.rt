@@ -5,7 +5,7 @@ use dynamics::word_of_previous;
 use reals::word_of;
 use reals::word_of_flag;
 ghost use mathlib.Core.Path.{_≡_};
-ghost use Rattle.exports.specs.Boundary.{controllerWords, averageWords, accumulatingWords, delayWords, holdWords, stateWords, decodedWords, noState};
+ghost use Rattle.exports.specs.Boundary.{controllerWords, averageWords, accumulatingWords, delayWords, holdWords, pulseWords, stateWords, decodedWords, noState};
 
 // The refusal number, and the state's values in the order of its record, zeros after them. With a refusal all are 0.
 #[repr(C)]
@@ -109,6 +109,21 @@ fn hold_words(s: hold::State) -> StateWords
     }
 }
 
+fn pulse_words(s: logical_variable_pulse::State) -> StateWords
+    ensures { λ r. ⌜ r ≡ pulseWords s ⌝ }
+{
+    let previous = s.previous;
+    StateWords {
+        refusal: 0,
+        first: word_of(s.sampled_u),
+        second: word_of(s.t0),
+        third: word_of_flag(s.held),
+        fourth: word_of(s.timer),
+        fifth: word_of_previous(previous),
+        sixth: 0,
+    }
+}
+
 // A state in words.
 fn state_words(state: State) -> StateWords
     ensures { λ r. ⌜ r ≡ stateWords state ⌝ }
@@ -119,6 +134,7 @@ fn state_words(state: State) -> StateWords
         State::TimerAccumulating(s) => accumulating_words(s),
         State::TrueDelay(s) => delay_words(s),
         State::Hold(s) => hold_words(s),
+        State::LogicalVariablePulse(s) => pulse_words(s),
     }
 }
 

@@ -1,3 +1,4 @@
 -- Laws that both holds share.
+pub mod Cases
 pub mod Decoding
 pub mod OneResult

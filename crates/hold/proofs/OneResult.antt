@@ -7,6 +7,7 @@ use Rattle.hold.proofs.decode.Reads as decode
 use Rattle.hold.proofs.admit.Reads as admit
 use Rattle.hold.proofs.write.Reads as write
 use Rattle.hold.proofs.start.Reads as start
+use Rattle.hold.proofs.step.output_and_timer.Reads as output
 
 pub number-once : Once number.Post
 number-once = equation-once
@@ -22,3 +23,6 @@ write-once = left-once
 
 pub start-once : OnceLeft start.Post (λ κs s. now (s .1 .0))
 start-once = one-result
+
+pub output-once : Once output.Post
+output-once = equation-once

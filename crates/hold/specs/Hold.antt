@@ -1,15 +1,19 @@
--- What `TrueFalseHold` and `TrueHoldWithReset` share: an output that lasts, its timer, and their words. Definitions only.
+-- What `TrueFalseHold` and `TrueHoldWithReset` share: an output that lasts, its timer, and their words; and how an output lasts for a
+-- least time, as those of `TrueFalseHold` and of the variable pulse do. Definitions only.
 use Prim.Native.Nat.{ℕ}
-use mathlib.Core.Bool.{Bool, false}
+use mathlib.Core.Bool.{Bool, false, not, _&&_, Bool·beq, cond}
 use mathlib.Core.List.{List, [], _∷_}
 use lib.ListN.{getD}
-use lib.Ieee.{Float}
+use lib.Ieee.{Float, le}
 use Rattle.reals.specs.Words.{0·0, realOf, wordOf, flagOf, wordOfFlag}
-use Rattle.dynamics.specs.Previous.{previousOf, wordOfPrevious}
+use Rattle.reals.specs.Arithmetic.{_⊕_}
+use Rattle.dynamics.specs.Previous.{previousOf, wordOfPrevious, gap, isFirst}
+use Rattle.dynamics.specs.Leaves.{timed}
 use Rattle.dynamics.specs.Answer.{Outputs, booleanOutput}
 use Rattle.dynamics.specs.Machine.{Machine, Reading}
 use Rattle.dynamics.specs.Stepped.{Stepped, steppedMachine, openedAs}
 use Rattle.dynamics.specs.declared.call.Inputs.{Inputs}
+use Rattle.dynamics.specs.declared.leaf.Timed.{Timed}
 use Rattle.dynamics.specs.declared.previous.Previous.the-variants.{Unset, At}
 use Rattle.hold.specs.declared.State.{State}
 use Rattle.hold.specs.declared.Decoded.{Decoded}
@@ -23,6 +27,24 @@ stateOf w = record { held = flagOf (getD w 0 0); timer = realOf (getD w 1 0); pr
 
 unfoldable pub wordsOf : State → List ℕ
 wordsOf s = wordOfFlag (s .held) ∷ wordOf (s .timer) ∷ wordOfPrevious (s .previous) ∷ []
+
+-- ---- an output that lasts for a least time
+
+-- stored timer + gap
+abbrev pub lasted : State → Float → Float
+lasted s time = s .timer ⊕ gap time (s .previous)
+
+-- the input differs from the output, and stored timer + gap >= the least time
+unfoldable pub flips : Float → State → Float → Bool → Bool
+flips least s time input = not (Bool·beq input (s .held)) && le least (lasted s time)
+
+-- `output_and_timer`: the first tick takes its input; after it the output flips exactly then. The timer runs while input and
+-- output agree too, and a flip stores 0.0
+unfoldable pub outputAndTimer : Float → State → Float → Bool → Timed
+outputAndTimer least s time input =
+    cond (isFirst (s .previous)) (timed input 0·0)
+    (cond (flips least s time input) (timed (not (s .held)) 0·0)
+    (timed (s .held) (lasted s time)))
 
 -- ---- a hold
 

@@ -1,4 +1,6 @@
-// What the two holds share: their state, its three words in a region, and how a region is started and taken apart.
+// What the two holds share: their state, its three words in a region, how a region is started and taken apart, and how an output lasts.
+mod step;
+
 use dynamics::Previous;
 use dynamics::flag_at;
 use dynamics::form_refusal;
@@ -10,6 +12,7 @@ use dynamics::time_refusal;
 use dynamics::word_of_previous;
 use reals::word_of;
 use reals::word_of_flag;
+pub use step::output_and_timer;
 ghost use mathlib.Core.Path.{_≡_};
 ghost use Rattle.dynamics.specs.Region.{stored, Gives};
 ghost use Rattle.dynamics.specs.Machine.{startRefusal, decodeRefusal, decodeAnswer, tickRefusal, startedWords};

@@ -5,7 +5,7 @@ use mathlib.Core.List.{List}
 use Rattle.text.specs.Bytes.{bytes, sameList}
 use Rattle.blocks.specs.Block.{numberOf, Hands, real, boolean, both, outputsOf}
 use Rattle.blocks.specs.declared.block.Block.{Block}
-use Rattle.blocks.specs.declared.block.Block.the-variants.{Pid, PidWithReset, MovingAverage, TimerAccumulating, TrueDelay, TrueFalseHold, TrueHoldWithReset}
+use Rattle.blocks.specs.declared.block.Block.the-variants.{Pid, PidWithReset, MovingAverage, TimerAccumulating, TrueDelay, TrueFalseHold, TrueHoldWithReset, LogicalVariablePulse}
 use Rattle.lines.specs.Forms.{rowsBefore, numberFor, formOf}
 
 -- each name leads back to its block's number
@@ -18,6 +18,7 @@ name-numbers (TimerAccumulating t) = refl
 name-numbers (TrueDelay time on-init) = refl
 name-numbers (TrueFalseHold long-true long-false) = refl
 name-numbers (TrueHoldWithReset duration) = refl
+name-numbers (LogicalVariablePulse period delta least) = refl
 
 -- the classes of a block's outputs
 abbrev pub classesOf : Hands → List ℕ
@@ -33,3 +34,4 @@ output-classes (TimerAccumulating t) = refl
 output-classes (TrueDelay time on-init) = refl
 output-classes (TrueFalseHold long-true long-false) = refl
 output-classes (TrueHoldWithReset duration) = refl
+output-classes (LogicalVariablePulse period delta least) = refl

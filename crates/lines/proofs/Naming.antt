@@ -18,16 +18,17 @@ use Rattle.lines.proofs.Items.{first-item, items-short}
 use Rattle.lines.proofs.Words.{Counts, counted}
 
 -- a number of no block has no settings
-pub no-settings : (n : ℕ) → (n ≡ 0 → ⊥) → (n ≡ 1 → ⊥) → (n ≡ 2 → ⊥) → (n ≡ 3 → ⊥) → (n ≡ 4 → ⊥) → (n ≡ 5 → ⊥) → (n ≡ 6 → ⊥)
+pub no-settings : (n : ℕ) → (n ≡ 0 → ⊥) → (n ≡ 1 → ⊥) → (n ≡ 2 → ⊥) → (n ≡ 3 → ⊥) → (n ≡ 4 → ⊥) → (n ≡ 5 → ⊥) → (n ≡ 6 → ⊥) → (n ≡ 7 → ⊥)
     → formAt n .settings ≡ []
-no-settings zero a b c d e f g = absurd (a refl)
-no-settings (suc zero) a b c d e f g = absurd (b refl)
-no-settings (suc (suc zero)) a b c d e f g = absurd (c refl)
-no-settings (suc (suc (suc zero))) a b c d e f g = absurd (d refl)
-no-settings (suc (suc (suc (suc zero)))) a b c d e f g = absurd (e refl)
-no-settings (suc (suc (suc (suc (suc zero))))) a b c d e f g = absurd (f refl)
-no-settings (suc (suc (suc (suc (suc (suc zero)))))) a b c d e f g = absurd (g refl)
-no-settings (suc (suc (suc (suc (suc (suc (suc n))))))) a b c d e f g = refl
+no-settings zero a b c d e f g h = absurd (a refl)
+no-settings (suc zero) a b c d e f g h = absurd (b refl)
+no-settings (suc (suc zero)) a b c d e f g h = absurd (c refl)
+no-settings (suc (suc (suc zero))) a b c d e f g h = absurd (d refl)
+no-settings (suc (suc (suc (suc zero)))) a b c d e f g h = absurd (e refl)
+no-settings (suc (suc (suc (suc (suc zero))))) a b c d e f g h = absurd (f refl)
+no-settings (suc (suc (suc (suc (suc (suc zero)))))) a b c d e f g h = absurd (g refl)
+no-settings (suc (suc (suc (suc (suc (suc (suc zero))))))) a b c d e f g h = absurd (h refl)
+no-settings (suc (suc (suc (suc (suc (suc (suc (suc n)))))))) a b c d e f g h = refl
 
 -- words laid out as sixteen, and taken back
 with-none : (n : ℕ) (w : Words) → laidOut w .ok ≡ false → Nothing ≡ namedWith n w

@@ -33,9 +33,10 @@ forms =
     ∷ row "TrueDelay" "rb" "b" "b"
     ∷ row "TrueFalseHold" "rr" "b" "b"
     ∷ row "TrueHoldWithReset" "r" "bb" "b"
+    ∷ row "LogicalVariablePulse" "rrr" "r" "b"
     ∷ []
 
--- the number of the block of a name: how many rows stand before its own; that of no block is 7
+-- the number of the block of a name: how many rows stand before its own; that of no block is 8
 unfoldable pub rowsBefore : List ℕ → List Form → ℕ
 rowsBefore name [] = 0
 rowsBefore name (f ∷ fs) = cond (sameList name (f .name)) 0 (suc (rowsBefore name fs))

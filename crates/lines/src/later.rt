@@ -31,6 +31,7 @@ fn read_tick(block: Block, line: &[u8]) -> Values
         Block::TrueDelay { .. } => read_values(line, 0, b"rb"),
         Block::TrueFalseHold { .. } => read_values(line, 0, b"rb"),
         Block::TrueHoldWithReset { .. } => read_values(line, 0, b"rbb"),
+        Block::LogicalVariablePulse { .. } => read_values(line, 0, b"rr"),
     }
 }
 

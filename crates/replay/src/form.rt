@@ -21,6 +21,7 @@ fn settings_of(number: u64) -> usize
         1 => CONTROLLER_SETTINGS,
         4 => 2,
         5 => 2,
+        7 => 3,
         _ => 1,
     }
 }

@@ -88,18 +88,19 @@ fn replay_block(number: u64, bytes: &mut [u8], region: &mut [u64], expected: &mu
         3 => replay_list(form, b"TimerAccumulating.txt", bytes, region, expected),
         4 => replay_list(form, b"TrueDelay.txt", bytes, region, expected),
         5 => replay_list(form, b"TrueFalseHold.txt", bytes, region, expected),
-        _ => replay_list(form, b"TrueHoldWithReset.txt", bytes, region, expected),
+        6 => replay_list(form, b"TrueHoldWithReset.txt", bytes, region, expected),
+        _ => replay_list(form, b"LogicalVariablePulse.txt", bytes, region, expected),
     }
 }
 
-// Replays the lists of all seven blocks.
+// Replays the lists of all eight blocks.
 pub(crate) fn replay_all(bytes: &mut [u8], region: &mut [u64], expected: &mut [u64]) -> Tally
     requires { ⌜ length (now bytes) ≤ 262144 ⌝ }
 {
     let mut calls: u64 = 0;
     let mut differ: u64 = 0;
     let mut number: u64 = 0;
-    while number < 7 {
+    while number < 8 {
         let tally = replay_block(number, bytes, region, expected);
         calls += tally.calls;
         differ += tally.differ;

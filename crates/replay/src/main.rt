@@ -1,4 +1,4 @@
-// replay: makes every stored call of the seven blocks through the proved library, and says how many give something else than is stored.
+// replay: makes every stored call of the eight blocks through the proved library, and says how many give something else than is stored.
 mod answer;
 mod call;
 mod compare;

@@ -5,6 +5,8 @@ mod words;
 use blocks::Block;
 use blocks::state_length;
 use dynamics::form_refusal;
+use logical_variable_pulse::LogicalVariablePulse;
+use loops::run_logical_variable_pulse;
 use loops::run_moving_average;
 use loops::run_pid;
 use loops::run_timer_accumulating;
@@ -74,6 +76,20 @@ fn run_ticks(block: Block, ticks: &[u64], region: &mut [u64], answers: &mut [u64
         ),
         Block::TrueHoldWithReset { duration } => run_true_hold_with_reset(
             TrueHoldWithReset { duration },
+            ticks,
+            region,
+            answers,
+        ),
+        Block::LogicalVariablePulse {
+            period,
+            delta_u,
+            min_true_false_hold,
+        } => run_logical_variable_pulse(
+            LogicalVariablePulse {
+                period,
+                delta_u,
+                min_true_false_hold,
+            },
             ticks,
             region,
             answers,

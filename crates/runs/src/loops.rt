@@ -3,6 +3,7 @@ use crate::words::WORDS_PER_TICK;
 use crate::words::asked_at;
 use crate::words::put_answer;
 use controller::ControllerConfig;
+use logical_variable_pulse::LogicalVariablePulse;
 use moving_average::MovingAverage;
 use timer_accumulating::TimerAccumulating;
 use true_delay::TrueDelay;
@@ -16,6 +17,7 @@ ghost use Rattle.timer_accumulating.specs.TimerAccumulating as accumulating;
 ghost use Rattle.true_delay.specs.TrueDelay as delay;
 ghost use Rattle.true_false_hold.specs.TrueFalseHold as false-hold;
 ghost use Rattle.true_hold_with_reset.specs.TrueHoldWithReset as reset-hold;
+ghost use Rattle.logical_variable_pulse.specs.LogicalVariablePulse as pulse;
 ghost use Rattle.runs.specs.Run.{asked, ranWords, ranAnswers, answerEach};
 
 pub(crate) fn run_pid(
@@ -152,6 +154,29 @@ pub(crate) fn run_true_hold_with_reset(
             answers,
             n,
             true_hold_with_reset::tick(settings, k.time, k.inputs, region),
+        );
+        n += 1;
+    }
+}
+
+pub(crate) fn run_logical_variable_pulse(
+    settings: LogicalVariablePulse,
+    ticks: &[u64],
+    region: &mut [u64],
+    answers: &mut [u64],
+)
+    requires { ⌜ answerEach (now ticks) (now answers) ≡ true ⌝ }
+    ensures { λ _. ⌜ now (region .exit) ≡ ranWords (pulse.machine settings) (now (region .entry)) (asked (now (ticks .entry))) ⌝ }
+    ensures { λ _. ⌜ now (answers .exit) ≡ ranAnswers (pulse.machine settings) (now (region .entry)) (asked (now (ticks .entry))) ⌝ }
+{
+    let count = ticks.len() / WORDS_PER_TICK;
+    let mut n: usize = 0;
+    while n < count {
+        let k = asked_at(ticks, n);
+        put_answer(
+            answers,
+            n,
+            logical_variable_pulse::tick(settings, k.time, k.inputs, region),
         );
         n += 1;
     }

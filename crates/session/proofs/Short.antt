@@ -10,7 +10,7 @@ use Rattle.dynamics.specs.Machine.{lengthAnswer}
 use Rattle.dynamics.specs.declared.call.Answer.{Answer}
 use Rattle.blocks.specs.Block.{machineOf}
 use Rattle.blocks.specs.declared.block.Block.{Block}
-use Rattle.blocks.specs.declared.block.Block.the-variants.{Pid, PidWithReset, MovingAverage, TimerAccumulating, TrueDelay, TrueFalseHold, TrueHoldWithReset}
+use Rattle.blocks.specs.declared.block.Block.the-variants.{Pid, PidWithReset, MovingAverage, TimerAccumulating, TrueDelay, TrueFalseHold, TrueHoldWithReset, LogicalVariablePulse}
 use Rattle.blocks.specs.declared.block.Tick.{Tick}
 use Rattle.blocks.specs.declared.named.Named.{Named}
 use Rattle.blocks.specs.declared.named.Named.the-variants.{Nothing}
@@ -38,6 +38,7 @@ block-short (TimerAccumulating t) = omega arith
 block-short (TrueDelay time on-init) = omega arith
 block-short (TrueFalseHold long-true long-false) = omega arith
 block-short (TrueHoldWithReset duration) = omega arith
+block-short (LogicalVariablePulse period delta least) = omega arith
 
 refusal-short : (n : ℕ) → length (refusalText n) ≤ 32
 refusal-short n = simp length-append (omega (arith, length-decimal-most n))
@@ -51,6 +52,7 @@ answer-short (TimerAccumulating t) a = simp length-append (omega (arith, length-
 answer-short (TrueDelay time on-init) a = simp length-append (omega (arith, length-flag (a .boolean)))
 answer-short (TrueFalseHold long-true long-false) a = simp length-append (omega (arith, length-flag (a .boolean)))
 answer-short (TrueHoldWithReset duration) a = simp length-append (omega (arith, length-flag (a .boolean)))
+answer-short (LogicalVariablePulse period delta least) a = simp length-append (omega (arith, length-flag (a .boolean)))
 
 answered-short : (region : List ℕ) (r : Run) (left : List ℕ) (a : Answer) → Short (tickAnswered region r left a)
 unfolding tickAnswered

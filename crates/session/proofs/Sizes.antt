@@ -22,7 +22,7 @@ use Rattle.blocks.specs.Block.{machineOf}
 use Rattle.blocks.specs.Named.{named, namesController, namedBy}
 use Rattle.blocks.proofs.Names.{above}
 use Rattle.blocks.specs.declared.block.Block.{Block}
-use Rattle.blocks.specs.declared.block.Block.the-variants.{Pid, PidWithReset, MovingAverage, TimerAccumulating, TrueDelay, TrueFalseHold, TrueHoldWithReset}
+use Rattle.blocks.specs.declared.block.Block.the-variants.{Pid, PidWithReset, MovingAverage, TimerAccumulating, TrueDelay, TrueFalseHold, TrueHoldWithReset, LogicalVariablePulse}
 use Rattle.blocks.specs.declared.named.Named.{Named}
 use Rattle.blocks.specs.declared.named.Named.the-variants.{Nothing}
 use Rattle.blocks.specs.declared.named.Named.the-variants as variant
@@ -41,6 +41,7 @@ IsF64 (TimerAccumulating t) = Unit {0}
 IsF64 (TrueDelay time on-init) = Unit {0}
 IsF64 (TrueFalseHold long-true long-false) = Unit {0}
 IsF64 (TrueHoldWithReset duration) = Unit {0}
+IsF64 (LogicalVariablePulse period delta least) = Unit {0}
 
 abbrev pub F64In : Named → Type 0
 F64In (variant.Block b) = IsF64 b
@@ -59,7 +60,8 @@ f64-named (suc (suc (suc zero))) w = if-named (eqb (length w) 1) _ tt
 f64-named (suc (suc (suc (suc zero)))) w = if-named (eqb (length w) 2) _ tt
 f64-named (suc (suc (suc (suc (suc zero))))) w = if-named (eqb (length w) 2) _ tt
 f64-named (suc (suc (suc (suc (suc (suc zero)))))) w = if-named (eqb (length w) 1) _ tt
-f64-named (suc (suc (suc (suc (suc (suc (suc n))))))) w = subst F64In (sym (above (suc (suc (suc (suc (suc (suc (suc n))))))) w (omega arith))) tt
+f64-named (suc (suc (suc (suc (suc (suc (suc zero))))))) w = if-named (eqb (length w) 3) _ tt
+f64-named (suc (suc (suc (suc (suc (suc (suc (suc n)))))))) w = subst F64In (sym (above (suc (suc (suc (suc (suc (suc (suc (suc n)))))))) w (omega arith))) tt
 
 f64-said : (n : ℕ) (ws : Words) → F64In (namedWith n ws)
 f64-said n (said ws) = f64-named n ws
@@ -85,6 +87,7 @@ refused-short (TimerAccumulating t) e = refl
 refused-short (TrueDelay time on-init) e = refl
 refused-short (TrueFalseHold long-true long-false) e = refl
 refused-short (TrueHoldWithReset duration) e = refl
+refused-short (LogicalVariablePulse period delta least) e = refl
 
 controller-room : (t : ControllerType) (reset : Bool) → leb (stateLength t reset) 4110 ≡ true
 controller-room P reset = refl
@@ -108,3 +111,4 @@ room (TimerAccumulating t) f e = refl
 room (TrueDelay time on-init) f e = refl
 room (TrueFalseHold long-true long-false) f e = refl
 room (TrueHoldWithReset duration) f e = refl
+room (LogicalVariablePulse period delta least) f e = refl

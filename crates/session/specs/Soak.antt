@@ -11,7 +11,7 @@ use Rattle.dynamics.specs.Machine.{lengthAnswer}
 use Rattle.dynamics.specs.declared.call.Answer.{Answer}
 use Rattle.blocks.specs.Block.{machineOf, fresh, ticked}
 use Rattle.blocks.specs.declared.block.Block.{Block}
-use Rattle.blocks.specs.declared.block.Block.the-variants.{Pid, PidWithReset, MovingAverage, TimerAccumulating, TrueDelay, TrueFalseHold, TrueHoldWithReset}
+use Rattle.blocks.specs.declared.block.Block.the-variants.{Pid, PidWithReset, MovingAverage, TimerAccumulating, TrueDelay, TrueFalseHold, TrueHoldWithReset, LogicalVariablePulse}
 use Rattle.blocks.specs.declared.named.Named.{Named}
 use Rattle.blocks.specs.declared.named.Named.the-variants.{Nothing}
 use Rattle.blocks.specs.declared.named.Named.the-variants as named
@@ -97,6 +97,7 @@ tooLong (TimerAccumulating t) = false
 tooLong (TrueDelay time on-init) = false
 tooLong (TrueFalseHold long-true long-false) = false
 tooLong (TrueHoldWithReset duration) = false
+tooLong (LogicalVariablePulse period delta least) = false
 
 -- 2 if a setting is refused, else 0
 abbrev pub settingsRefusal : Block → ℕ

@@ -45,6 +45,7 @@ pub(crate) fn put_block(out: &mut [u8], at: usize, block: Block) -> usize
         Block::TrueDelay { .. } => put_bytes(out, at, b"block TrueDelay\n"),
         Block::TrueFalseHold { .. } => put_bytes(out, at, b"block TrueFalseHold\n"),
         Block::TrueHoldWithReset { .. } => put_bytes(out, at, b"block TrueHoldWithReset\n"),
+        Block::LogicalVariablePulse { .. } => put_bytes(out, at, b"block LogicalVariablePulse\n"),
     }
 }
 
@@ -89,6 +90,7 @@ pub(crate) fn put_answer(out: &mut [u8], at: usize, block: Block, answer: Answer
         Block::TrueDelay { .. } => put_boolean(out, at, answer),
         Block::TrueFalseHold { .. } => put_boolean(out, at, answer),
         Block::TrueHoldWithReset { .. } => put_boolean(out, at, answer),
+        Block::LogicalVariablePulse { .. } => put_boolean(out, at, answer),
     }
 }
 

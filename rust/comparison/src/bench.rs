@@ -80,6 +80,11 @@ pub fn cases() -> Vec<Case> {
         delay,
         case("TrueFalseHold", TrueFalseHold, &[2.0, 2.0]),
         case("TrueHoldWithReset", TrueHoldWithReset, &[2.0]),
+        case(
+            "LogicalVariablePulse",
+            LogicalVariablePulse,
+            &[10.0, 0.05, 1.0],
+        ),
         walk("walk of 300 s", 300.0, 1.0),
         walk("walk of 3600 s", 3600.0, 1.0),
         walk("walk of 65536 s", 65536.0, 1.0),
@@ -87,9 +92,12 @@ pub fn cases() -> Vec<Case> {
 }
 
 impl Case {
-    /// The inputs of tick n: small reals, and booleans that change every few ticks.
+    /// The inputs of tick n: small reals, and booleans that change every few ticks. A duty ratio is 0.3, and every other minute 0.6.
     fn inputs(&self, n: u64) -> [u64; 3] {
-        let x = (n % 7) as f64 * 0.125;
+        let x = match self.kind {
+            LogicalVariablePulse => [0.3, 0.6][(n / 60 % 2) as usize],
+            _ => (n % 7) as f64 * 0.125,
+        };
         let mut inputs = [0; 3];
         for (i, item) in self.kind.inputs().bytes().enumerate() {
             inputs[i] = match item {

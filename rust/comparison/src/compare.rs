@@ -59,8 +59,7 @@ fn run(subject: &Calls, kind: Kind, r: &mut Rng, tally: &mut Tally) {
     let before = run.region.clone();
     let (mut ticks, mut answers) = (vec![], vec![]);
     for _ in 0..TICKS {
-        run.time = inputs::wide::tick_time(r, kind, &run.settings, &run.region);
-        run.inputs = inputs::tick_inputs(r, kind);
+        (run.time, run.inputs) = inputs::wide::tick(r, kind, &run.settings, &run.region);
         let emitted = run.emit();
         answers.push(run.update(emitted));
         let [first, second, third] = run.inputs;

@@ -6,11 +6,11 @@ use crate::{Calls, Kind};
 
 /// Compares, prints what was met and found, and gives the exit status.
 #[must_use]
-pub fn run(subject: &Calls, blocks: &[Kind]) -> i32 {
+pub fn run(subject: &Calls) -> i32 {
     let args: Vec<String> = std::env::args().skip(1).collect();
     let args: Vec<&str> = args.iter().map(String::as_str).collect();
     let number = |n: usize| args.get(n).and_then(|a| a.parse::<u64>().ok());
-    let kinds = chosen(blocks, args.get(2..).unwrap_or(&[]));
+    let kinds = chosen(&Kind::ALL, args.get(2..).unwrap_or(&[]));
     let (Some(least), Some(seed), false) = (number(0), number(1), kinds.is_empty()) else {
         eprintln!("usage: CALLS SEED [[not] BLOCK]");
         return 2;

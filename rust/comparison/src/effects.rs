@@ -2,6 +2,7 @@
 use crate::inputs::MINUS_ZERO;
 use crate::lengths::Off;
 use crate::model::leaves::UNSET;
+use crate::pulse_classes;
 use crate::ring_classes;
 use crate::sound_classes;
 use crate::tally::{Class, Word, met};
@@ -14,6 +15,10 @@ pub fn effects(kind: Kind, s: &[u64], inputs: &[u64], before: &[u64], after: &[u
         classes = ring_effects((before[3], before[4]), after);
         let met = ring_classes::accepted(s, before, after);
         classes.extend(met.into_iter().map(Class::Ring));
+    }
+    if kind == Kind::LogicalVariablePulse {
+        let met = pulse_classes::accepted(s, inputs, before, after);
+        classes.extend(met.into_iter().map(Class::Pulse));
     }
     let times = kind.time_place(s).map(|n| (before[n], after[n]));
     let first = times.is_some_and(|(previous, _)| previous == UNSET);
@@ -47,6 +52,10 @@ pub fn faults(kind: Kind, refused: u64, s: &[u64], region: &[u64]) -> Vec<Class>
         (_, 3) => {
             let (_, due) = model::state_length(kind, s);
             Off::of(region.len(), due).map(Class::Length).collect()
+        }
+        (Kind::LogicalVariablePulse, 2) => {
+            let limit = pulse_classes::refused(s);
+            limit.into_iter().map(Class::Pulse).collect()
         }
         (Kind::MovingAverage, 6) => {
             let damage = ring_classes::damage(s, region);

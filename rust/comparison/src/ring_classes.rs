@@ -1,7 +1,7 @@
 //! What a call of a moving average meets: its window, its ring, and how near the tick comes to where a rule turns.
-use crate::inputs::{next_down, next_up};
 use crate::model::leaves::{UNSET, is_finite, real_of};
 use crate::ring::Ring;
+use crate::sides::{Side, side};
 use crate::tally::{Word, met};
 
 #[derive(Clone, Copy, Debug, PartialEq, Eq, PartialOrd, Ord)]
@@ -71,14 +71,6 @@ pub enum Place {
     PastAll,
 }
 
-/// At a limit, or on the float beside it.
-#[derive(Clone, Copy, Debug, PartialEq, Eq, PartialOrd, Ord)]
-pub enum Side {
-    Below,
-    At,
-    Above,
-}
-
 /// A head or a count outside the ring.
 #[derive(Clone, Copy, Debug, PartialEq, Eq, PartialOrd, Ord)]
 pub enum Damage {
@@ -122,7 +114,7 @@ pub fn all() -> Vec<RingClass> {
     all.extend(places.map(WindowStart));
     all.extend(damages.map(Damaged));
     all.extend(Word::ALL.map(Coalesced));
-    for side in [Side::Below, Side::At, Side::Above] {
+    for side in Side::ALL {
         all.extend([Expires(side), Apart(side), Fills(side)]);
     }
     all
@@ -138,20 +130,6 @@ fn size(delta: f64) -> Size {
         65536.0.. => Size::Above65536,
         _ if delta.fract() == 0.0 => Size::Whole,
         _ => Size::Fractional,
-    }
-}
-
-/// Where a rising function of the time stands by a limit.
-fn side(t: f64, limit: f64, of: impl Fn(f64) -> f64) -> Option<Side> {
-    let x = of(t);
-    if x == limit {
-        Some(Side::At)
-    } else if x < limit && of(next_up(t)) >= limit {
-        Some(Side::Below)
-    } else if x > limit && of(next_down(t)) <= limit {
-        Some(Side::Above)
-    } else {
-        None
     }
 }
 
@@ -274,6 +252,7 @@ impl Tick<'_> {
 #[cfg(test)]
 mod tests {
     use super::*;
+    use crate::inputs::{next_down, next_up};
 
     #[test]
     fn sizes_part_where_the_rules_do() {
@@ -284,15 +263,5 @@ mod tests {
         assert_eq!(large, [Size::Fractional, Size::At65536, Size::Above65536]);
         assert_eq!([-0.0, -5e-324].map(size), [Size::Raised, Size::Negative]);
         assert_eq!(size(1025.0), Size::Whole);
-    }
-
-    #[test]
-    fn sides_of_a_limit() {
-        let since = |t: f64| t - 0.1;
-        let limit = since(0.3);
-        let sides = [next_down(0.3), 0.3, next_up(0.3), 0.4].map(|t| side(t, limit, since));
-        let due = [Side::Below, Side::At, Side::Above].map(Some);
-        assert_eq!(sides[..3], due);
-        assert_eq!(sides[3], None);
     }
 }

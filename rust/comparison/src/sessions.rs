@@ -35,16 +35,27 @@ pub fn parse(list: &str) -> Vec<(String, String)> {
 }
 
 fn session(r: &mut Rng, kind: Kind) -> String {
-    let s = inputs::settings(r, kind);
+    let pulses = kind == Kind::LogicalVariablePulse;
+    let s = if pulses && !r.one_in(4) {
+        short_cycles(r)
+    } else {
+        inputs::settings(r, kind)
+    };
     let mut text = first_line(kind, &s);
     if r.one_in(40) {
         text = damaged(r, &text);
     }
     text.push('\n');
-    let mut previous = 0.0;
+    let (mut previous, mut inputs) = (0.0, [0; 3]);
     for _ in 0..r.below(24) {
         let time = inputs::time_after(r, previous);
-        let line = tick_line(r, kind, time);
+        if pulses {
+            let any = r.one_in(8);
+            long_inputs(r, kind, any, &mut inputs);
+        } else {
+            inputs = inputs::tick_inputs(r, kind);
+        }
+        let line = written_tick(kind, time, inputs);
         let t = f64::from_bits(time);
         if r.one_in(12) {
             text += &damaged(r, &line);
@@ -63,7 +74,7 @@ fn session(r: &mut Rng, kind: Kind) -> String {
 }
 
 /// A long input of a block: of its later lines one in `rare` is bad, and one in `rare` has a time
-/// that is to be refused. Booleans keep their value for some ticks. Inputs are tame, but in the
+/// that is to be refused. Booleans and duty ratios keep their value for some ticks. Inputs are tame, but in the
 /// last tenth of any sort: an integrator that has met a NaN keeps it.
 #[must_use]
 pub fn long(kind: Kind, lines: u64, rare: u64, seed: u64) -> String {
@@ -91,6 +102,9 @@ pub fn long(kind: Kind, lines: u64, rare: u64, seed: u64) -> String {
 /// seconds or minutes. The seeds 1 to 4 are a controller's types PI, PD, PID and P.
 fn long_settings(r: &mut Rng, kind: Kind, seed: u64) -> Vec<u64> {
     let numbers = [0.8, 300.0, 0.5, 2.0, 20.0, -20.0, 0.9, 10.0, 0.5, 0.25, 3.0];
+    if kind == Kind::LogicalVariablePulse {
+        return short_cycles(r);
+    }
     let item = |(n, item)| match item {
         b'c' => seed % 4,
         b'b' => r.below(2),
@@ -99,6 +113,13 @@ fn long_settings(r: &mut Rng, kind: Kind, seed: u64) -> Vec<u64> {
         _ => (r.below(100) as f64 / 8.0).to_bits(),
     };
     kind.settings().bytes().enumerate().map(item).collect()
+}
+
+/// A variable pulse's with cycles of some seconds.
+fn short_cycles(r: &mut Rng) -> Vec<u64> {
+    let (period, hold) = (r.below(80) as f64 / 8.0, 1.0 + r.below(8) as f64 / 4.0);
+    let delta_u = r.pick(&[0.01, 0.05, 0.25, 0.5]);
+    [period, delta_u, hold].map(f64::to_bits).to_vec()
 }
 
 /// The seconds to the next tick, now and then none.
@@ -117,6 +138,11 @@ fn long_inputs(r: &mut Rng, kind: Kind, any: bool, inputs: &mut [u64; 3]) {
     for (item, word) in kind.inputs().bytes().zip(inputs) {
         match item {
             b'r' if any => *word = inputs::any_real(r),
+            b'r' if kind == Kind::LogicalVariablePulse => {
+                if r.one_in(5) {
+                    *word = r.unit().to_bits();
+                }
+            }
             b'r' => *word = inputs::tame(r).to_bits(),
             _ => *word ^= u64::from(r.one_in(5)),
         }
@@ -131,11 +157,6 @@ fn first_line(kind: Kind, s: &[u64]) -> String {
         _ => format!(" {}", hex(&[*w])),
     });
     kind.name() + &written.collect::<String>()
-}
-
-fn tick_line(r: &mut Rng, kind: Kind, time: u64) -> String {
-    let inputs = inputs::tick_inputs(r, kind);
-    written_tick(kind, time, inputs)
 }
 
 fn written_tick(kind: Kind, time: u64, inputs: [u64; 3]) -> String {

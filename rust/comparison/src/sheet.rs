@@ -10,17 +10,6 @@ pub const SETTINGS: usize = 4;
 /// Given by the boundary alone, before all others: the words name no rows.
 pub const NO_BLOCK: u64 = 13;
 
-/// The blocks that a row may name, in the order of their numbers.
-pub const BLOCKS: [Kind; 7] = [
-    Kind::Pid,
-    Kind::PidWithReset,
-    Kind::MovingAverage,
-    Kind::TimerAccumulating,
-    Kind::TrueDelay,
-    Kind::TrueFalseHold,
-    Kind::TrueHoldWithReset,
-];
-
 /// A block with its settings, and three column numbers.
 #[derive(Clone, Debug, PartialEq, Eq)]
 pub struct Row {
@@ -87,9 +76,11 @@ impl Row {
         words
     }
 
-    /// The row that seventeen words name. None if the number is above 6, or a controller's type above 3.
+    /// The row that seventeen words name. None if the number is above 7, or a controller's type above 3.
     fn named(words: &[u64]) -> Option<Row> {
-        let kind = *BLOCKS.iter().find(|kind| **kind as u64 == words[0])?;
+        let kind = Kind::ALL
+            .into_iter()
+            .find(|kind| *kind as u64 == words[0])?;
         let settings = &words[SETTINGS..][..kind.settings().len()];
         let row = Row::new(kind, settings, [words[1], words[2], words[3]]);
         (!kind.is_controller() || settings[0] <= 3).then_some(row)

@@ -3,6 +3,7 @@ use std::collections::BTreeMap;
 use std::fmt::Debug;
 
 use crate::lengths::Off;
+use crate::pulse_classes::{self, PulseClass};
 use crate::ring_classes::{self, RingClass};
 use crate::sound_classes::{self, SoundClass};
 use crate::{Answer, Kind};
@@ -37,6 +38,8 @@ pub enum Class {
     Overwritten,
     /// What a moving average's window and ring met.
     Ring(RingClass),
+    /// What a variable pulse met.
+    Pulse(PulseClass),
     /// What decides whether a moving average's ring is sound.
     Sound(SoundClass),
     /// A ring of which the published validator says whether its times are in order.
@@ -222,7 +225,10 @@ pub fn expected_classes(kind: Kind) -> Vec<Class> {
             wanted.extend([KeptSound, Mended, StaysUnsound]);
             wanted.extend([true, false].map(Validated));
         }
-        Kind::Pid | Kind::TrueFalseHold | Kind::LogicalVariablePulse => {}
+        Kind::LogicalVariablePulse => {
+            wanted.extend(pulse_classes::all().into_iter().map(Pulse));
+        }
+        Kind::Pid | Kind::TrueFalseHold => {}
         _ => wanted.push(Wiping),
     }
     wanted

@@ -93,6 +93,25 @@ fn settings_that_are_not_finite() {
     assert_eq!(of_nan, of_least);
 }
 
+/// A change of 0.006 is one to a pulse with a `delta_u` of 0.005, and half a second ends its minimum hold.
+#[test]
+fn settings_outside_the_limits_of_a_pulse() {
+    let (kind, region) = (Kind::LogicalVariablePulse, [w(0.5), 0, 1, 0, 0]);
+    let s = [w(10.0), w(0.005), w(1.0)];
+    assert_eq!(refused(kind, &s, 1.0, &region), 2);
+    let after = raw(kind, &s, 1.0, &[Value::Real(0.506)], &region).1;
+    assert_eq!([after[0], after[1]], [w(0.506), w(1.0)]);
+
+    let s = [w(10.0), w(0.01), w(0.5)];
+    assert_eq!(refused(kind, &s, 0.5, &region), 2);
+    assert_eq!(raw(kind, &s, 0.5, &[Value::Real(0.0)], &region).0, FALSE);
+
+    let s = [w(INF), w(0.01), w(1.0)];
+    assert_eq!(refused(kind, &s, 2.5, &region), 2);
+    let (out, after) = raw(kind, &s, 2.5, &[Value::Real(0.5)], &region);
+    assert_eq!((out, after[2]), (TRUE, 1), "a period of 2.02");
+}
+
 #[test]
 fn regions_of_a_wrong_length() {
     let (kind, s) = (Kind::TrueFalseHold, [w(2.0), w(2.0)]);

@@ -45,10 +45,7 @@ impl Call {
             .time_place(&self.settings)
             .expect("it keeps a time");
         match number {
-            2 => {
-                let reals: Vec<_> = self.kind.settings().match_indices('r').collect();
-                self.settings[r.pick(&reals).0] = r.pick(&NOT_FINITE);
-            }
+            2 => inputs::refuse_setting(r, self.kind, &mut self.settings),
             3 => self.region.resize(other_length(r, self.region.len()), 0),
             5 => self.time = r.pick(&[NOT_FINITE.as_slice(), &[UNSET]].concat()),
             6 if self.kind == Kind::MovingAverage && r.one_in(2) => self.damage_ring(r),

@@ -1,7 +1,7 @@
 //! Document 01's bench sheet, on the model: refusals, answers, warning, rows that feed rows, and that a sheet is its blocks.
 use comparison::inputs::{self, Rng, bench_controller};
 use comparison::model::{self, leaves::UNSET};
-use comparison::sheet::{BLOCKS, Row, SheetAnswer, words_of};
+use comparison::sheet::{Row, SheetAnswer, words_of};
 use comparison::sheets::cases::cases;
 use comparison::sheets::{Left, Sheet, worked};
 use comparison::{Kind, sheet};
@@ -60,7 +60,7 @@ fn p11_no_rows() {
     assert_eq!(sheet.start().made(&model::sheet::CALLS), due);
 }
 
-/// All seven blocks in one sheet, from a start: their words end to end, their answers in pairs.
+/// All eight blocks in one sheet, from a start: their words end to end, their answers in pairs.
 #[test]
 fn every_block_on_its_stretch() {
     let pi = bench_controller(1, 1.0, 0.75);
@@ -71,20 +71,26 @@ fn every_block_on_its_stretch() {
         row(Kind::TrueDelay, &[w(2.0), 0], [4, 0, 0]),
         row(Kind::TrueFalseHold, &[w(2.0), w(2.0)], [4, 0, 0]),
         row(Kind::TrueHoldWithReset, &[w(2.0)], [4, 5, 0]),
+        row(
+            Kind::LogicalVariablePulse,
+            &[w(4.0), w(0.25), w(1.0)],
+            [1, 0, 0],
+        ),
         row(Kind::MovingAverage, &[w(2.0)], [2, 0, 0]),
     ]);
-    assert_eq!(sheet.region.len(), 5 + 3 + 4 + 3 + 3 + 4110);
+    assert_eq!(sheet.region.len(), 5 + 3 + 4 + 3 + 3 + 5 + 4110);
     let (timer, pi, delay, hold) = (
         [0, UNSET, 0, 0, 1],
         [0, UNSET, 0],
         [0, UNSET, 0, 0],
         [0, 0, UNSET],
     );
-    let due = [&timer[..], &pi, &delay, &hold, &hold].concat();
-    assert_eq!(sheet.region[..18], due);
+    let pulse = [0, 0, 0, 0, UNSET];
+    let due = [&timer[..], &pi, &delay, &hold, &hold, &pulse].concat();
+    assert_eq!(sheet.region[..23], due);
     let words = [w(0.5), w(0.25), w(3.0), NAN, 7, 0, NAN, NAN];
     let first = ticked(&mut sheet, 0.0, words);
-    let due = [0, 1, w(0.5), 0, w(0.25), 0, 1, 0, 1, 0, 1, 0, 0, 0];
+    let due = [0, 1, w(0.5), 0, w(0.25), 0, 1, 0, 1, 0, 1, 0, 1, 0, 0, 0];
     assert_eq!(first.answers, due);
     ticked(&mut sheet, 1.0, words);
     let third = ticked(&mut sheet, 2.0, words);
@@ -100,6 +106,8 @@ fn every_block_on_its_stretch() {
         1,
         0,
         1,
+        0,
+        0,
         0,
         w(3.0),
         0,
@@ -147,7 +155,7 @@ fn the_warning_of_any_row() {
 #[test]
 fn one_row_is_the_block() {
     let mut r = Rng::new(12, 0);
-    for kind in BLOCKS.into_iter().flat_map(|kind| [kind; 200]) {
+    for kind in Kind::ALL.into_iter().flat_map(|kind| [kind; 200]) {
         let s = inputs::settings(&mut r, kind);
         let region = inputs::region(&mut r, kind, &s);
         let time = inputs::tick_time(&mut r, kind, &s, &region);

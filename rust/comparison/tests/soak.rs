@@ -46,13 +46,33 @@ fn stored_sessions() {
     }
 }
 
+/// How often the output of a variable pulse changes in what was written.
+fn changes(said: &str) -> usize {
+    let outputs: Vec<&str> = said.lines().filter(|line| line.len() == 1).collect();
+    outputs.windows(2).filter(|pair| pair[0] != pair[1]).count()
+}
+
+/// Most of the stored sessions have ticks of a pulse that cycles, and a few have settings that are refused.
+#[test]
+fn stored_pulses_cycle() {
+    let list = sessions::sessions(Kind::LogicalVariablePulse, 1);
+    let sessions = sessions::parse(&list);
+    let refused = sessions.iter().filter(|(_, said)| said == "refused 2\n");
+    let cycling = sessions.iter().filter(|(_, said)| changes(said) >= 2);
+    let (refused, cycling) = (refused.count(), cycling.count());
+    assert!(
+        (1..10).contains(&refused) && cycling >= 20,
+        "{refused} {cycling}"
+    );
+    let long = soak(sessions::long(Kind::LogicalVariablePulse, 2000, 6, 1).as_bytes());
+    assert!(changes(&long) > 200, "{}", changes(&long));
+}
+
 /// Of a long input's 2000 later lines more than 200 each are accepted, refused and bad.
 #[test]
 fn long_sessions() {
-    let seven = Kind::ALL
-        .into_iter()
-        .filter(|kind| *kind != Kind::LogicalVariablePulse);
-    for (kind, seed) in seven.flat_map(|kind| (1..=4).map(move |seed| (kind, seed))) {
+    let seeds = |kind| (1..=4).map(move |seed| (kind, seed));
+    for (kind, seed) in Kind::ALL.into_iter().flat_map(seeds) {
         let said = soak(sessions::long(kind, 2000, 6, seed).as_bytes());
         assert_eq!(said.lines().count(), 2002);
         let refused = said.lines().filter(|line| line.starts_with("refused"));

@@ -5,8 +5,8 @@ mod calls;
 pub mod guarded;
 mod leaves;
 pub mod shown;
+pub mod shown_pulse;
 pub mod shown_sheet;
 
 pub use calls::{CALLS, OVEN_CALLS, SHEETS, answer, run};
-pub use comparison::sheet::BLOCKS;
 pub use leaves::LEAVES;

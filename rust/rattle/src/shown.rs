@@ -128,13 +128,14 @@ fn words(inputs: &str) -> [u64; 3] {
     [0, 1, 2].map(|n| u64::from(letters.get(n) == Some(&b'T')))
 }
 
-fn numbers(text: &mut String, name: &str, numbers: impl Iterator<Item = f64>) {
+/// A number under each tick.
+pub(crate) fn numbers(text: &mut String, name: &str, numbers: impl Iterator<Item = f64>) {
     let shown: String = numbers.map(|x| format!("{x:<WIDTH$}")).collect();
     writeln!(text, "{name:8}{}", shown.trim_end()).expect("text grows");
 }
 
 /// High for true, low for false, from each tick to the next.
-fn wave(text: &mut String, name: &str, values: impl Iterator<Item = bool>) {
+pub(crate) fn wave(text: &mut String, name: &str, values: impl Iterator<Item = bool>) {
     let mut shown = String::new();
     let mut before = None;
     for value in values {

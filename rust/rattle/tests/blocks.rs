@@ -3,11 +3,11 @@ use comparison::Kind;
 use comparison::compare::compare;
 use comparison::stored::stored;
 use comparison::tally::{Class, expected_classes};
-use rattle::{BLOCKS, CALLS};
+use rattle::CALLS;
 
 #[test]
 fn the_proved_blocks_are_the_published_ones() {
-    let others = BLOCKS.into_iter().filter(|k| *k != Kind::MovingAverage);
+    let others = Kind::ALL.into_iter().filter(|k| *k != Kind::MovingAverage);
     for kind in others {
         let tally = compare(&CALLS, kind, 2_000, 9);
         assert!(tally.report(&kind.name(), &expected_classes(kind)));
@@ -24,7 +24,7 @@ fn the_proved_average_is_the_published_one() {
 
 #[test]
 fn the_proved_blocks_give_the_stored_answers() {
-    for kind in BLOCKS {
+    for kind in Kind::ALL {
         let calls = stored(kind);
         assert!(calls.len() >= 200);
         assert!(calls.iter().all(|call| call.replay(&CALLS)), "{kind:?}");

@@ -1,12 +1,12 @@
 //! The numbers of include/oven.h are those of the proved library.
 use std::collections::HashMap;
 
-use comparison::inputs::{Rng, bench_controller};
+use comparison::inputs::{Rng, accepted_settings, bench_controller};
 use comparison::sheet::{ROW_WORDS, Row, SETTINGS};
 use comparison::sheets::{Fault, Sheet, plant};
 use comparison::{Kind, TICK_WORDS};
 use rattle::boundary::{ANSWER_WORDS, answer_column};
-use rattle::{BLOCKS, CALLS, SHEETS};
+use rattle::{CALLS, SHEETS};
 
 /// Each name that the header gives a number, by a define or in an enum.
 fn numbers() -> HashMap<String, u64> {
@@ -38,7 +38,7 @@ fn length(kind: Kind, s: &[u64]) -> u64 {
 #[test]
 fn blocks_and_their_settings() {
     let numbers = numbers();
-    for kind in BLOCKS {
+    for kind in Kind::ALL {
         assert_eq!(numbers[&name(kind)], kind as u64);
         let both = if kind.is_controller() {
             Kind::Pid
@@ -70,8 +70,8 @@ fn lengths() {
         let due = length(Kind::MovingAverage, &[f64::to_bits(delta)]);
         assert_eq!(numbers[&format!("OVEN_MOVING_AVERAGE_{which}_LENGTH")], due);
     }
-    for kind in BLOCKS.into_iter().skip(3) {
-        let due = length(kind, &vec![0; kind.settings().len()]);
+    for kind in Kind::ALL.into_iter().skip(3) {
+        let due = length(kind, &accepted_settings(&mut Rng::new(1, 0), kind));
         assert_eq!(numbers[&format!("{}_LENGTH", name(kind))], due, "{kind:?}");
     }
 }

@@ -3,7 +3,7 @@ use comparison::inputs::{self, Rng};
 use comparison::lengths::other_length;
 use comparison::{Kind, TICK_WORDS, model};
 use rattle::boundary::ANSWER_WORDS;
-use rattle::{BLOCKS, guarded as calls};
+use rattle::guarded as calls;
 
 /// A block with settings and a region that is started.
 struct Started {
@@ -67,7 +67,7 @@ impl Started {
 #[test]
 fn a_run_takes_so_many_words_a_tick_and_an_answer() {
     let mut r = Rng::new(5, 1);
-    for kind in BLOCKS {
+    for kind in Kind::ALL {
         let block = started(&mut r, kind);
         for (words, answers) in (0..=20).flat_map(|words| (0..=20).map(move |a| (words, a))) {
             let ticks = ticks(&mut r, kind, words);
@@ -89,7 +89,7 @@ fn a_run_takes_so_many_words_a_tick_and_an_answer() {
 #[test]
 fn a_run_takes_no_other_answer_space() {
     let mut r = Rng::new(5, 4);
-    for kind in BLOCKS.into_iter().flat_map(|kind| [kind; 40]) {
+    for kind in Kind::ALL.into_iter().flat_map(|kind| [kind; 40]) {
         let block = started(&mut r, kind);
         let ticks = ticks(&mut r, kind, TICK_WORDS * 3);
         let answers = other_length(&mut r, ANSWER_WORDS * 3);
@@ -100,7 +100,7 @@ fn a_run_takes_no_other_answer_space() {
 #[test]
 fn a_run_is_its_ticks_one_by_one() {
     let mut r = Rng::new(5, 2);
-    for kind in BLOCKS.into_iter().flat_map(|kind| [kind; 40]) {
+    for kind in Kind::ALL.into_iter().flat_map(|kind| [kind; 40]) {
         let block = started(&mut r, kind);
         let ticks = ticks(&mut r, kind, TICK_WORDS * 50);
         let due = block.singly(&ticks);
@@ -112,7 +112,7 @@ fn a_run_is_its_ticks_one_by_one() {
 #[test]
 fn settings_and_lengths_refuse_the_run() {
     let mut r = Rng::new(5, 3);
-    for kind in BLOCKS.into_iter().flat_map(|kind| [kind; 40]) {
+    for kind in Kind::ALL.into_iter().flat_map(|kind| [kind; 40]) {
         let mut block = started(&mut r, kind);
         let ticks = ticks(&mut r, kind, TICK_WORDS * 3);
         let answers = ticks.len() / TICK_WORDS * ANSWER_WORDS;
@@ -124,8 +124,7 @@ fn settings_and_lengths_refuse_the_run() {
             ran.0
         };
         assert_eq!(number(&block, answers), 3, "{kind:?}");
-        let reals: Vec<_> = kind.settings().match_indices('r').collect();
-        block.settings[r.pick(&reals).0] = f64::NAN.to_bits();
+        inputs::refuse_setting(&mut r, kind, &mut block.settings);
         assert_eq!(number(&block, answers), 2, "{kind:?}");
         assert_eq!(number(&block, answers + 1), 14, "{kind:?}");
     }
@@ -135,7 +134,7 @@ fn settings_and_lengths_refuse_the_run() {
 #[test]
 fn refused_ticks_are_answered_one_by_one() {
     let mut r = Rng::new(5, 5);
-    for kind in BLOCKS {
+    for kind in Kind::ALL {
         let mut block = started(&mut r, kind);
         if let Some(place) = kind.time_place(&block.settings) {
             let ticks = ticks(&mut r, kind, TICK_WORDS * 3);

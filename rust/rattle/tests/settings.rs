@@ -1,6 +1,5 @@
 //! Words that name no block are refused with 13 by every call, before all else, and nothing is written.
-use comparison::{TICK_WORDS, TickWords};
-use rattle::BLOCKS;
+use comparison::{Kind, TICK_WORDS, TickWords};
 use rattle::boundary::{ANSWER_WORDS, AnswerWords, LengthWords, StateWords};
 use rattle::guarded as calls;
 
@@ -35,7 +34,7 @@ fn settings(first: u64, count: usize) -> Vec<u64> {
 
 /// As many settings as the block has, and a controller's type is one of four.
 fn names_a_block(block: u64, s: &[u64]) -> bool {
-    let kind = BLOCKS.iter().find(|kind| **kind as u64 == block);
+    let kind = Kind::ALL.iter().find(|kind| **kind as u64 == block);
     kind.is_some_and(|kind| kind.settings().len() == s.len() && !(kind.is_controller() && s[0] > 3))
 }
 
@@ -104,7 +103,7 @@ fn no_lengths_hide_it() {
     for (region, ticks, answers) in
         (0..6).flat_map(|n| (0..6).flat_map(move |m| (0..6).map(move |k| (n, m, k))))
     {
-        assert_eq!(refusals(7, &[], region, ticks, answers), 7);
+        assert_eq!(refusals(8, &[], region, ticks, answers), 7);
         assert_eq!(refusals(0, &settings(4, 13), region, ticks, answers), 7);
         assert_eq!(refusals(4, &settings(0, 1), region, ticks, answers), 7);
     }

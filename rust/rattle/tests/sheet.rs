@@ -1,7 +1,7 @@
 //! The proved sheet: which numbers and rows it gives, that it is document 01's with rows that feed rows, and that it is its blocks
 //! run singly.
 use comparison::inputs::{self, Rng};
-use comparison::sheet::{BLOCKS, Row};
+use comparison::sheet::Row;
 use comparison::sheets::cases::cases;
 use comparison::sheets::{Sheet, compare, expected_classes, worked};
 use comparison::{Kind, model};
@@ -39,7 +39,7 @@ fn the_proved_sheet_is_document_01s_and_its_blocks() {
 #[test]
 fn one_row_is_the_block() {
     let mut r = Rng::new(12, 0);
-    for kind in BLOCKS.into_iter().flat_map(|kind| [kind; 100]) {
+    for kind in Kind::ALL.into_iter().flat_map(|kind| [kind; 100]) {
         let s = inputs::settings(&mut r, kind);
         let region = inputs::region(&mut r, kind, &s);
         let time = inputs::tick_time(&mut r, kind, &s, &region);

@@ -1,10 +1,10 @@
-//! What docs/TIMERS.md, docs/CONTROLLER.md, docs/MOVING-AVERAGE.md and docs/SHEET.md show is what the proved library gives.
+//! What docs/TIMERS.md, docs/PULSE.md, docs/CONTROLLER.md, docs/MOVING-AVERAGE.md and docs/SHEET.md show is what the proved library gives.
 use comparison::Kind;
 use comparison::inputs::bench_controller;
 use comparison::sheet::{Row, words_of};
 use rattle::boundary::answer_column;
 use rattle::shown::EXAMPLES;
-use rattle::{CALLS, bench_rows, guarded, run, shown_sheet};
+use rattle::{CALLS, bench_rows, guarded, run, shown_pulse, shown_sheet};
 
 fn page(name: &str) -> String {
     let folder = concat!(env!("CARGO_MANIFEST_DIR"), "/../../docs/");
@@ -17,6 +17,13 @@ fn the_timers_page_shows_the_runs() {
     for example in EXAMPLES {
         assert!(page.contains(&example.text()), "{}", example.text());
     }
+}
+
+#[test]
+fn the_pulses_page_shows_the_run() {
+    let text = shown_pulse::text();
+    assert!(text.lines().all(|line| line.chars().count() <= 130));
+    assert!(page("PULSE.md").contains(&text), "{text}");
 }
 
 #[test]

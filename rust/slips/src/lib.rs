@@ -4,6 +4,7 @@
 #![forbid(unsafe_code)]
 
 pub mod lists;
+mod pulse_table;
 mod sheet_table;
 mod sound_table;
 mod table;
@@ -14,6 +15,7 @@ mod slipped {
     include!(concat!(env!("OUT_DIR"), "/slipped.rs"));
 }
 
+pub use pulse_table::PULSE_SLIPS;
 pub use sheet_table::SHEET_SLIPS;
 pub use sound_table::{REFUSING_SLIPS, SOUND_SLIPS};
 pub use table::{SLIPS, Slip};
@@ -21,12 +23,19 @@ pub use table::{SLIPS, Slip};
 // what the copies name, as the model does
 pub use comparison::{Answer, Calls, Decoded, Kind, TickWords, sheet};
 
-/// The calls of each slipped model, in the order of the table.
+/// The calls of each slipped model, in the order of its table.
 pub const SLIPPED: [Calls; SLIPS.len()] = slipped::CALLS;
+pub const SLIPPED_PULSES: [Calls; PULSE_SLIPS.len()] = slipped::PULSE_CALLS;
 
 /// Those of the model with each slip of sound, and of each model that refuses a ring for it.
 pub const SLIPPED_SOUND: [Calls; SOUND_SLIPS.len()] = slipped::SOUND_CALLS;
 pub const REFUSING: [Calls; REFUSING_SLIPS.len()] = slipped::REFUSING_CALLS;
+
+/// The slips of the blocks, each with its calls: these the stored calls must show.
+pub fn of_blocks() -> impl Iterator<Item = (&'static Slip, &'static Calls)> {
+    let pulses = PULSE_SLIPS.iter().zip(&SLIPPED_PULSES);
+    SLIPS.iter().zip(&SLIPPED).chain(pulses)
+}
 
 /// The sheet's calls of each model with a slip in its sheet.
 pub const SLIPPED_SHEETS: [sheet::SheetCalls; SHEET_SLIPS.len()] = slipped::SHEETS;

@@ -3,7 +3,7 @@ use comparison::inputs::{self, Rng};
 use comparison::stored::Stored;
 use comparison::{Calls, Kind};
 
-use crate::{SLIPPED, SLIPS};
+use crate::of_blocks;
 
 /// Calls of any sort in a list.
 const ANY: usize = 200;
@@ -17,8 +17,7 @@ const TRIES: usize = 20_000;
 pub fn calls(kind: Kind, seed: u64) -> String {
     let mut r = Rng::new(seed, 100 + kind as u64);
     let mut list: String = (0..ANY).map(|_| call(&mut r, kind).line() + "\n").collect();
-    let slips = SLIPS.iter().zip(&SLIPPED);
-    let own = slips.filter(|(slip, _)| slip.block == kind.name());
+    let own = of_blocks().filter(|(slip, _)| slip.block == kind.name());
     let mut wanted: Vec<(&Calls, usize)> = own.map(|(_, calls)| (calls, EACH)).collect();
     for _ in 0..TRIES {
         let call = call(&mut r, kind);
@@ -55,8 +54,8 @@ fn any_call(r: &mut Rng, kind: Kind) -> Stored {
     if kind == Kind::MovingAverage && region.len() >= 8 {
         thin(&mut region);
     }
-    let time = inputs::tick_time(r, kind, &s, &region);
-    Stored::ask(kind, &s, time, &inputs::tick_inputs(r, kind), &region)
+    let (time, inputs) = inputs::tick(r, kind, &s, &region);
+    Stored::ask(kind, &s, time, &inputs, &region)
 }
 
 /// Zeroes all points of a ring but the first three and the last three, so that a line stays short.

@@ -27,8 +27,8 @@ pub const fn slip(
     }
 }
 
-/// All slips.
-pub const SLIPS: [Slip; 92] = [
+/// The slips of the blocks but the pulse.
+pub const SLIPS: [Slip; 89] = [
     slip(
         "NaN clamped to y_min",
         "Pid",
@@ -508,28 +508,6 @@ pub const SLIPS: [Slip; 92] = [
         "timers.rs",
         "let run = real_of(w[1]) + tick_dt(time, w[2]);",
         "let run = real_of(w[1]) + tick_dt(time, w[2]) + 0.0;",
-    ),
-    // the pulse
-    slip(
-        "a pulse's timer forgets",
-        "LogicalVariablePulse",
-        "pulse.rs",
-        "let timer = real_of(w[3]) + tick_dt(time, w[4]);",
-        "let timer = tick_dt(time, w[4]);",
-    ),
-    slip(
-        "a change of exactly delta_u is sampled",
-        "LogicalVariablePulse",
-        "pulse.rs",
-        "> delta_u",
-        ">= delta_u",
-    ),
-    slip(
-        "a pulse's period not raised",
-        "LogicalVariablePulse",
-        "pulse.rs",
-        "if real_of(s[0]) < least_period {",
-        "if real_of(s[0]) < 0.0 {",
     ),
     // the refusals
     slip(

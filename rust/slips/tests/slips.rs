@@ -1,7 +1,7 @@
 //! The comparison with the Rust catches every slip, and finds nothing in the model without one.
 use comparison::compare::compare;
 use comparison::{Calls, Kind, model};
-use slips::{REFUSING, REFUSING_SLIPS, SLIPPED, SLIPPED_SOUND, SLIPS, SOUND_SLIPS, Slip};
+use slips::{REFUSING, REFUSING_SLIPS, SLIPPED_SOUND, SOUND_SLIPS, Slip, of_blocks};
 
 /// Runs of each block, and the seed of their inputs.
 const RUNS: u64 = 4000;
@@ -18,10 +18,9 @@ fn the_model_without_a_slip_differs_nowhere() {
 
 /// The slips of all tables but the sheet's, each with its calls.
 fn all() -> Vec<(&'static Slip, &'static Calls)> {
-    let blocks = SLIPS.iter().zip(&SLIPPED);
     let sound = SOUND_SLIPS.iter().zip(&SLIPPED_SOUND);
     let refusing = REFUSING_SLIPS.iter().zip(&REFUSING);
-    blocks.chain(sound).chain(refusing).collect()
+    of_blocks().chain(sound).chain(refusing).collect()
 }
 
 #[test]

@@ -5,8 +5,9 @@ use Rattle.moving_average.proofs.Decoding as average
 use Rattle.timer_accumulating.proofs.Decoding as accumulating
 use Rattle.true_delay.proofs.Decoding as delay
 use Rattle.hold.proofs.Decoding as holds
+use Rattle.logical_variable_pulse.proofs.Decoding as pulse
 use Rattle.blocks.specs.Block.{machineOf}
-use Rattle.blocks.specs.Decoded.{stateOf, ofController, ofAverage, ofAccumulating, ofDelay, ofHold}
+use Rattle.blocks.specs.Decoded.{stateOf, ofController, ofAverage, ofAccumulating, ofDelay, ofHold, ofPulse}
 use Rattle.blocks.specs.declared.decoded.State.the-variants as state
 use Rattle.blocks.proofs.Decoding.{carried, says}
 use borrow.Author.Needs.{needs}
@@ -41,5 +42,9 @@ returns-7 : tie.Need-returns-7
 unfolding machineOf stateOf
 returns-7 c = says (c .before .before .before .block7 .given .1) _ (c .hold-decoded2 .ensures ∙ ap ofHold (c .before .decode7 .ensures .0) ∙ carried holds.decoded ofHold state.Hold (λ s. refl) (λ n. refl) _ _)
 
+returns-8 : tie.Need-returns-8
+unfolding machineOf stateOf
+returns-8 c = says (c .before .before .before .block8 .given .1) _ (c .pulse-decoded .ensures ∙ ap ofPulse (c .before .decode8 .ensures .0) ∙ carried pulse.decoded ofPulse state.LogicalVariablePulse (λ s. refl) (λ n. refl) _ _)
+
 pub decode-spec : {M : Type 1} → statement M
-decode-spec = tie.close (tie.spec (λ c. search needs) (λ c κs. search needs) (λ c κs. search needs) (λ c. search needs) (λ c κs. search needs) (λ c κs. search needs) (λ c. search needs) (λ c κs. search needs) (λ c κs. search needs) (λ c. search needs) (λ c κs. search needs) (λ c κs. search needs) (λ c. search needs) (λ c κs. search needs) (λ c κs. search needs) (λ c. search needs) (λ c κs. search needs) (λ c κs. search needs) (λ c. search needs) (λ c κs. search needs) (λ c κs. search needs) returns returns-2 returns-3 returns-4 returns-5 returns-6 returns-7)
+decode-spec = tie.close (tie.spec (λ c. search needs) (λ c κs. search needs) (λ c κs. search needs) (λ c. search needs) (λ c κs. search needs) (λ c κs. search needs) (λ c. search needs) (λ c κs. search needs) (λ c κs. search needs) (λ c. search needs) (λ c κs. search needs) (λ c κs. search needs) (λ c. search needs) (λ c κs. search needs) (λ c κs. search needs) (λ c. search needs) (λ c κs. search needs) (λ c κs. search needs) (λ c. search needs) (λ c κs. search needs) (λ c κs. search needs) (λ c. search needs) (λ c κs. search needs) (λ c κs. search needs) returns returns-2 returns-3 returns-4 returns-5 returns-6 returns-7 returns-8)

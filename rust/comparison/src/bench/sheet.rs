@@ -40,6 +40,7 @@ pub fn cases() -> Vec<SheetCase> {
         "PidWithReset PI",
         "MovingAverage 300 s",
         "TrueHoldWithReset",
+        "LogicalVariablePulse",
     ];
     vec![
         sheet("sheet mix", &mix),

@@ -1,4 +1,5 @@
 //! Settings, ticks and regions from a generator with a fixed seed, made to reach the corners.
+mod pulses;
 mod reals;
 mod regions;
 mod rings;
@@ -11,5 +12,5 @@ pub(crate) use reals::MINUS_ZERO;
 pub use reals::{NOT_FINITE, any_bool, any_real, next_down, next_up, tame, wild};
 pub use regions::region;
 pub use rng::Rng;
-pub use settings::{accepted_settings, bench_controller, settings};
-pub use ticks::{tick_inputs, tick_time, time_after};
+pub use settings::{accepted_settings, bench_controller, refuse_setting, settings};
+pub use ticks::{tick, tick_inputs, tick_time, time_after};

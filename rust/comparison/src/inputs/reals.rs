@@ -103,6 +103,11 @@ pub fn next_down(x: f64) -> f64 {
     -next_up(-x)
 }
 
+/// The number itself, or one of the floats beside it.
+pub(super) fn beside(r: &mut Rng, x: f64) -> f64 {
+    r.pick(&[x, x, next_up(x), next_down(x)])
+}
+
 pub(crate) const MINUS_ZERO: u64 = 1 << 63;
 
 pub(super) fn zero(r: &mut Rng) -> u64 {

@@ -1,6 +1,6 @@
 //! State words of every sort.
 use super::reals::{MINUS_ZERO, wild, zero};
-use super::{Rng, any_bool, any_real, tame};
+use super::{Rng, any_bool, any_real, pulses, tame};
 use crate::lengths::other_length;
 use crate::model::leaves::UNSET;
 use crate::{Kind, model};
@@ -43,6 +43,9 @@ pub(super) fn region_with(
         }
         if kind == Kind::MovingAverage {
             fill_ring(r, &mut w, |r, w| points(r, s, w));
+        }
+        if kind == Kind::LogicalVariablePulse && !rests && !r.one_in(4) {
+            pulses::put_words(r, s, &mut w);
         }
     }
     if r.one_in(25) {

@@ -1,6 +1,6 @@
 //! Settings in source order.
-use super::reals::{NANS, infinity, tame, wild, zero};
-use super::{Rng, any_bool, any_real};
+use super::reals::{NANS, NOT_FINITE, infinity, tame, wild, zero};
+use super::{Rng, any_bool, pulses};
 use crate::{Kind, model};
 
 /// Settings of which one in 60 has a number that is not finite. Their booleans are any words.
@@ -22,6 +22,15 @@ pub(super) fn spoiled(r: &mut Rng, kind: Kind, mut s: Vec<u64>) -> Vec<u64> {
         };
     }
     s
+}
+
+/// Puts in a setting that is refused: a real that is not finite, or half the time of a pulse one that lies beside its limit.
+pub fn refuse_setting(r: &mut Rng, kind: Kind, s: &mut [u64]) {
+    if kind == Kind::LogicalVariablePulse && r.one_in(2) {
+        return pulses::refuse_setting(r, s);
+    }
+    let reals: Vec<_> = kind.settings().match_indices('r').collect();
+    s[r.pick(&reals).0] = r.pick(&NOT_FINITE);
 }
 
 /// The settings of document 01's rows P3 to P6, which differ in type, k and `y_reset`.
@@ -55,7 +64,7 @@ fn finite_settings(r: &mut Rng, kind: Kind) -> Vec<u64> {
     let mut s: Vec<u64> = kind.settings().bytes().map(item).collect();
     match kind {
         Kind::Pid | Kind::PidWithReset if calm => calm_controller(r, &mut s),
-        Kind::LogicalVariablePulse => pulse(r, &mut s, calm),
+        Kind::LogicalVariablePulse => pulses::settings(r, &mut s, calm),
         Kind::MovingAverage => s[0] = delta(r).to_bits(),
         _ => {}
     }
@@ -79,19 +88,6 @@ fn calm_controller(r: &mut Rng, s: &mut [u64]) {
         }
         (s[5], s[6]) = (1f64.to_bits(), (-1f64).to_bits());
     }
-}
-
-/// Mostly within the limits of document 02, request 3.
-fn pulse(r: &mut Rng, s: &mut [u64], calm: bool) {
-    if r.one_in(16) {
-        s[1] = any_real(r);
-        return;
-    }
-    let steps = r.below(400) as f64;
-    s[0] = if calm { steps / 10.0 } else { wild(r) }.to_bits();
-    s[1] = r.pick(&[0.01f64, 0.02, 0.1, 0.25, 0.5, 0.157]).to_bits();
-    let hold = 1.0 + r.below(20) as f64 / 4.0;
-    s[2] = if calm { hold } else { wild(r).abs().max(1.0) }.to_bits();
 }
 
 /// Short windows make the ring small; now and then one that sizes it, or the largest ring.

@@ -1,6 +1,6 @@
 //! The time and the inputs of a tick.
 use super::reals::{MINUS_ZERO, NANS, infinity, wild};
-use super::{Rng, any_bool, any_real};
+use super::{Rng, any_bool, any_real, pulses};
 use crate::Kind;
 use crate::model::leaves::UNSET;
 
@@ -18,6 +18,16 @@ pub fn tick_inputs(r: &mut Rng, kind: Kind) -> [u64; 3] {
         inputs[1] = inputs[0];
     }
     inputs
+}
+
+/// A tick's time to follow the region's previous one, and its inputs. Most of a variable pulse lie where a rule turns.
+pub fn tick(r: &mut Rng, kind: Kind, s: &[u64], region: &[u64]) -> (u64, [u64; 3]) {
+    if kind == Kind::LogicalVariablePulse && !r.one_in(4) {
+        if let Some((time, u)) = pulses::tick(r, s, region) {
+            return (time, [u, any_bool(r), any_bool(r)]);
+        }
+    }
+    (tick_time(r, kind, s, region), tick_inputs(r, kind))
 }
 
 /// A time to follow the region's previous one.

@@ -1,6 +1,6 @@
 //! The generators of a comparison: those of the stored lists, but for a moving average windows of every size, rings whose
 //! points lie close or that are sound but for one thing, and times at which a rule turns.
-use super::reals::{next_down, next_up, wild};
+use super::reals::{beside, next_down, next_up, wild};
 use super::regions::{Points, region_with};
 use super::settings::spoiled;
 use super::{Rng, rings, tame};
@@ -46,11 +46,6 @@ fn middle(r: &mut Rng) -> f64 {
     if r.one_in(2) { delta.ceil() } else { delta }
 }
 
-/// The number itself, or one of the floats beside it.
-fn beside(r: &mut Rng, x: f64) -> f64 {
-    r.pick(&[x, x, next_up(x), next_down(x)])
-}
-
 /// A region for the settings. Half of the rings have points as close as they are kept apart; a quarter is sound or has one thing
 /// wrong.
 pub fn region(r: &mut Rng, kind: Kind, s: &[u64]) -> Vec<u64> {
@@ -75,11 +70,13 @@ fn close_points(r: &mut Rng, s: &[u64], w: &[u64]) -> Points {
     }
 }
 
-/// A time to follow the region's previous one.
-pub fn tick_time(r: &mut Rng, kind: Kind, s: &[u64], region: &[u64]) -> u64 {
+/// A tick's time to follow the region's previous one, and its inputs.
+pub fn tick(r: &mut Rng, kind: Kind, s: &[u64], region: &[u64]) -> (u64, [u64; 3]) {
     let ring = Ring::of(s, region).filter(|_| kind == Kind::MovingAverage && r.one_in(2));
-    let turning = ring.and_then(|ring| turning_time(r, &ring));
-    turning.unwrap_or_else(|| super::tick_time(r, kind, s, region))
+    match ring.and_then(|ring| turning_time(r, &ring)) {
+        Some(time) => (time, super::tick_inputs(r, kind)),
+        None => super::tick(r, kind, s, region),
+    }
 }
 
 /// A time at which a rule of the moving average turns, or a float beside it; none if it is refused.

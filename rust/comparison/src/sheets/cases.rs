@@ -2,7 +2,7 @@
 use crate::Kind;
 use crate::inputs::{Rng, accepted_settings};
 use crate::model;
-use crate::sheet::{BLOCKS, NO_BLOCK, ROW_WORDS, Row, SETTINGS};
+use crate::sheet::{NO_BLOCK, ROW_WORDS, Row, SETTINGS};
 
 use super::{Call, Fault, Sheet, bad_columns, due, plant};
 
@@ -70,7 +70,7 @@ fn counts(r: &mut Rng) -> Vec<Case> {
     let case = |count| {
         let number = u64::from(!(1..=16).contains(&count));
         let name = format!("{count} rows");
-        let call = accepted(r, &turns(&BLOCKS, 0, count));
+        let call = accepted(r, &turns(&Kind::ALL, 0, count));
         both(&name, call, &of_sheet(number))
     };
     [0, 1, 2, 15, 16, 17, 18, 32]
@@ -99,13 +99,13 @@ fn columns_of(r: &mut Rng, kinds: &[Kind]) -> Vec<Case> {
 
 /// Every block in each of three rows.
 fn columns(r: &mut Rng) -> Vec<Case> {
-    let of = |from| columns_of(r, &turns(&BLOCKS, from, 3));
-    (0..BLOCKS.len()).flat_map(of).collect()
+    let of = |from| columns_of(r, &turns(&Kind::ALL, from, 3));
+    (0..Kind::ALL.len()).flat_map(of).collect()
 }
 
 /// Every block in each of sixteen rows, but the moving average, which has thousands of words.
 fn columns_of_sixteen(r: &mut Rng) -> Vec<Case> {
-    let mut short = BLOCKS.to_vec();
+    let mut short = Kind::ALL.to_vec();
     short.retain(|kind| *kind != Kind::MovingAverage);
     let of = |from| columns_of(r, &turns(&short, from, 16));
     (0..short.len()).flat_map(of).collect()
@@ -116,7 +116,7 @@ fn columns_and_faults(r: &mut Rng) -> Vec<Case> {
     let mut cases = vec![];
     for number in [2, 3, 4, 5, 6, 7, NO_BLOCK] {
         for (row, at) in (0..3).flat_map(|row| [0, 1, 2].map(|at| (row, at))) {
-            let mut call = accepted(r, &turns(&BLOCKS, row + at, 3));
+            let mut call = accepted(r, &turns(&Kind::ALL, row + at, 3));
             call.rows[at * ROW_WORDS + 1 + row] = 8 + 2 * at as u64;
             let mut faults = plant(r, &mut call, &[Fault { number, row }]);
             faults.push(Fault { number: 1, row: at });
@@ -127,7 +127,7 @@ fn columns_and_faults(r: &mut Rng) -> Vec<Case> {
     cases
 }
 
-/// Words that name no block: a number above 6, a controller's type above 3, or words that are not seventeen each.
+/// Words that name no block: a number above 7, a controller's type above 3, or words that are not seventeen each.
 fn names(r: &mut Rng) -> Vec<Case> {
     let mut cases = vec![];
     let mut refused = |name: String, change: &dyn Fn(&mut Vec<u64>)| {
@@ -136,7 +136,7 @@ fn names(r: &mut Rng) -> Vec<Case> {
         cases.extend(both(&name, call, &of_sheet(NO_BLOCK)));
     };
     for begin in [0, ROW_WORDS] {
-        for word in [7, 8, 1 << 32, u64::MAX] {
+        for word in [8, 9, 1 << 32, u64::MAX] {
             refused(format!("number {word} at {begin}"), &|rows| {
                 rows[begin] = word
             });
@@ -167,7 +167,7 @@ fn faults(r: &mut Rng) -> Vec<Case> {
     let mut cases = vec![];
     for (n, first) in all.iter().enumerate() {
         for second in &all[n..] {
-            let mut call = accepted(r, &turns(&BLOCKS, n, 3));
+            let mut call = accepted(r, &turns(&Kind::ALL, n, 3));
             let planted = plant(r, &mut call, &[*first, *second]);
             assert!(
                 [first, second]

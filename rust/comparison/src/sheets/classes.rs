@@ -1,8 +1,8 @@
 //! What a comparison of sheets meets.
 use crate::lengths::Off;
-use crate::sheet::{BLOCKS, NO_BLOCK, Row, rows_of};
+use crate::sheet::{NO_BLOCK, Row, rows_of};
 use crate::tally::{Word, met};
-use crate::{Kind, model};
+use crate::{Kind, model, model::leaves};
 
 use super::feeding::{self, As, Bad, Fed};
 use super::{Call, Fault, Left};
@@ -44,11 +44,15 @@ pub enum SheetClass {
     FedUnread,
     /// A fed word, and as what it is read.
     Fed(Fed, As),
+    /// A fed duty ratio of a variable pulse that lies between 0 and 1.
+    FedRatio,
     /// A boolean setting of a row in an accepted tick.
     BooleanSetting(Word),
     /// A region or an answer space refused for its length: how far it is off.
     RegionLength(Off),
     AnswersLength(Off),
+    /// A refusal for a setting of a pulse that is finite, and outside its limits.
+    OutsideLimits,
     /// A refusal of this number that names another row than the first.
     Lower(u64),
     /// A refusal of this number with several rows at fault for it.
@@ -72,7 +76,7 @@ pub fn expected_classes() -> Vec<SheetClass> {
         Passed,
     ];
     wanted.extend([NoRows, TooManyRows, UnreadColumn, Before(2), Before(6)]);
-    wanted.extend([Unfed, FedUnread]);
+    wanted.extend([Unfed, FedUnread, FedRatio, OutsideLimits]);
     wanted.extend((1..=15).flat_map(|n| [Chain(n), Last(n)]));
     wanted.extend(
         Bad::ALL
@@ -84,7 +88,7 @@ pub fn expected_classes() -> Vec<SheetClass> {
     wanted.extend([1, 2, 3, NO_BLOCK].map(StartRefused));
     wanted.extend([1, 2, 3, 4, 5, 6, 7, NO_BLOCK].map(TickRefused));
     wanted.extend((1..=16).map(Rows));
-    wanted.extend(BLOCKS.map(Block));
+    wanted.extend(Kind::ALL.map(Block));
     wanted.extend(Word::ALL.map(BooleanSetting));
     wanted.extend(Off::ALL.map(RegionLength));
     wanted.extend(Off::ALL.map(AnswersLength));
@@ -177,6 +181,8 @@ fn refused(rows: &[Row], faults: &[Fault], due: &Left) -> Vec<SheetClass> {
     let above =
         |fault: &Fault| [6, 7].contains(&fault.number) && fault.number > number && fault.row < row;
     let of_rows = [2, 6, 7].contains(&number);
+    let is_finite = |row: &Row| row.settings.iter().all(|word| leaves::is_finite(*word));
+    let outside = number == 2 && is_finite(&rows[row]);
     let classes = met([
         (NoRows, number == 1 && rows.is_empty()),
         (TooManyRows, number == 1 && rows.len() > 16),
@@ -184,6 +190,7 @@ fn refused(rows: &[Row], faults: &[Fault], due: &Left) -> Vec<SheetClass> {
             UnreadColumn,
             number == 1 && fits && !rows.iter().enumerate().any(read),
         ),
+        (OutsideLimits, outside),
         (Lower(number), of_rows && row > 0),
         (Several(number), of_rows && own.len() > 1),
         (Before(number), of_rows && faults.iter().any(above)),

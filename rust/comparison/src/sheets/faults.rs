@@ -1,6 +1,6 @@
 //! Faults planted in a call that was accepted: each stands for one refusal number.
 use crate::Kind;
-use crate::inputs::{NOT_FINITE, Rng, next_up};
+use crate::inputs::{NOT_FINITE, Rng, next_up, refuse_setting};
 use crate::lengths::other_length;
 use crate::model;
 use crate::sheet::{NO_BLOCK, ROW_WORDS, SETTINGS, rows_of};
@@ -104,11 +104,10 @@ fn spoil_form(r: &mut Rng, rows: &mut Vec<u64>, row: usize) {
     }
 }
 
-/// A real setting that is not finite.
+/// A setting that is refused.
 fn spoil_setting(r: &mut Rng, row: &mut [u64]) {
     let kind = Kind::ALL[row[0] as usize];
-    let reals: Vec<_> = kind.settings().match_indices('r').collect();
-    row[SETTINGS + r.pick(&reals).0] = r.pick(&NOT_FINITE);
+    refuse_setting(r, kind, &mut row[SETTINGS..]);
 }
 
 /// A number of no block, a type of no controller, or words that are not seventeen each.
@@ -119,7 +118,7 @@ fn name_no_block(r: &mut Rng, rows: &mut Vec<u64>, row: usize) {
         0 => drop(rows.pop()),
         1 => rows.push(0),
         2 if rows[place] < 2 => rows[place + SETTINGS] = r.pick(&[4, 5, 1 << 32, u64::MAX]),
-        _ => rows[place] = r.pick(&[7, 8, 1 << 32, u64::MAX]),
+        _ => rows[place] = r.pick(&[8, 9, 1 << 32, u64::MAX]),
     }
 }
 

@@ -1,5 +1,6 @@
 //! What rows that feed rows meet: how they are chained, which words are handed on and as what they are read, and columns that name
 //! nothing.
+use crate::Kind;
 use crate::inputs::MINUS_ZERO;
 use crate::sheet::Row;
 
@@ -100,6 +101,11 @@ pub(super) fn fed(rows: &[Row], answers: &[u64]) -> Vec<SheetClass> {
                 Some(b'r') => SheetClass::Fed(word, As::Real),
                 Some(_) => SheetClass::Fed(word, As::Boolean),
             });
+            let ratio = f64::from_bits(answers[place]);
+            let is_ratio = i == 0 && 0.0 < ratio && ratio < 1.0;
+            if is_ratio && row.kind == Kind::LogicalVariablePulse {
+                classes.push(SheetClass::FedRatio);
+            }
             if place + 1 == 2 * n {
                 classes.push(SheetClass::Last(n));
             }

@@ -2,7 +2,7 @@
 use crate::Kind;
 use crate::inputs::{self, MINUS_ZERO, Rng, any_bool, any_real};
 use crate::model::{self, leaves::UNSET};
-use crate::sheet::{BLOCKS, Row, Tick, words_of};
+use crate::sheet::{Row, Tick, words_of};
 
 use super::{Call, Left};
 
@@ -87,7 +87,7 @@ impl Sheet {
         let words = [(); 8].map(|()| any_word(r));
         let turning = self.rows.first().filter(|_| r.one_in(8));
         let time = match turning {
-            Some(row) => inputs::wide::tick_time(r, row.kind, &row.settings, &self.region),
+            Some(row) => inputs::wide::tick(r, row.kind, &row.settings, &self.region).0,
             None => inputs::time_after(r, self.time),
         };
         self.tick(time, words)
@@ -150,7 +150,7 @@ fn any_kind(r: &mut Rng, averages: bool) -> Kind {
         return Kind::MovingAverage;
     }
     loop {
-        let kind = r.pick(&BLOCKS);
+        let kind = r.pick(&Kind::ALL);
         if kind != Kind::MovingAverage {
             return kind;
         }

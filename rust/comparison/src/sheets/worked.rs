@@ -135,12 +135,41 @@ fn mean() -> Worked {
     }
 }
 
+/// A damper's ratio is what a controller answers: 0.25, and from 5 on 0.75, which begins a cycle there.
+fn damper() -> Worked {
+    let tick = |time, measured, ratio, output| {
+        let answers = vec![w(ratio), 0, output, 0];
+        (time, words(&[w(1.0), w(measured)]), answers)
+    };
+    Worked {
+        name: "a controller's answer is the ratio of a pulse",
+        rows: vec![
+            Row::new(Kind::Pid, &bench_controller(0, 1.0, 0.0), [0, 1, 1]),
+            Row::new(
+                Kind::LogicalVariablePulse,
+                &[w(4.0), w(0.125), w(1.0)],
+                [8, 0, 0],
+            ),
+        ],
+        ticks: vec![
+            tick(0.0, 0.75, 0.25, 1),
+            tick(0.75, 0.75, 0.25, 1),
+            tick(1.0, 0.75, 0.25, 0),
+            tick(4.0, 0.75, 0.25, 1),
+            tick(5.0, 0.25, 0.75, 1),
+            tick(7.5, 0.25, 0.75, 1),
+            tick(8.0, 0.25, 0.75, 0),
+        ],
+        region: vec![w(0.75), w(5.0), 0, w(0.0), w(8.0)],
+    }
+}
+
 /// Runs all of them by these calls.
 ///
 /// # Panics
 /// If an answer or a word is another than the one that is due.
 pub fn run(calls: &SheetCalls) {
-    for worked in [chain(), bits(), updates(), wiping(), mean()] {
+    for worked in [chain(), bits(), updates(), wiping(), mean(), damper()] {
         let mut sheet = Sheet::new(worked.rows);
         let started = sheet.start().made(calls);
         assert_eq!(started.answer, SheetAnswer::default(), "{}", worked.name);

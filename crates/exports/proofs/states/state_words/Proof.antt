@@ -18,5 +18,8 @@ returns-4 c = rw (c .before .before .state4 .given .1) (c .delay-words .ensures)
 returns-5 : tie.Need-returns-5
 returns-5 c = rw (c .before .before .state5 .given .1) (c .hold-words .ensures)
 
+returns-6 : tie.Need-returns-6
+returns-6 c = rw (c .before .before .state6 .given .1) (c .pulse-words .ensures)
+
 pub state-words-spec : {M : Type 1} → statement M
-state-words-spec = tie.close (tie.spec (λ c. search needs) (λ c κs. search needs) (λ c. search needs) (λ c κs. search needs) (λ c. search needs) (λ c κs. search needs) (λ c. search needs) (λ c κs. search needs) (λ c. search needs) (λ c κs. search needs) returns returns-2 returns-3 returns-4 returns-5)
+state-words-spec = tie.close (tie.spec (λ c. search needs) (λ c κs. search needs) (λ c. search needs) (λ c κs. search needs) (λ c. search needs) (λ c κs. search needs) (λ c. search needs) (λ c κs. search needs) (λ c. search needs) (λ c κs. search needs) (λ c. search needs) (λ c κs. search needs) returns returns-2 returns-3 returns-4 returns-5 returns-6)

@@ -51,6 +51,9 @@ name6 c = name5 (c .before .before .before)
 abbrev name7 : tie.Else7 → List ℕ
 name7 c = name6 (c .before .before .before)
 
+abbrev name8 : tie.Else8 → List ℕ
+name8 c = name7 (c .before .before .before)
+
 past1 : (c : tie.Else1) → Past 1 (name1 c)
 past1 c = passed _ 0 refl refl (sym (c .before .same .ensures) ∙ c .if1 .left)
 
@@ -71,6 +74,9 @@ past6 c = passed _ 5 refl (past5 (c .before .before .before)) (sym (c .before .s
 
 past7 : (c : tie.Else7) → Past 7 (name7 c)
 past7 c = passed _ 6 refl (past6 (c .before .before .before)) (sym (c .before .same7 .ensures) ∙ c .if7 .left)
+
+past8 : (c : tie.Else8) → Past 8 (name8 c)
+past8 c = passed _ 7 refl (past7 (c .before .before .before)) (sym (c .before .same8 .ensures) ∙ c .if8 .left)
 
 returns : tie.Need-returns
 returns c = found _ 0 refl refl (sym (c .before .same .ensures) ∙ c .if1 .taken)
@@ -94,8 +100,11 @@ returns-7 : tie.Need-returns-7
 returns-7 c = found _ 6 refl (past6 (c .before .before .before)) (sym (c .before .same7 .ensures) ∙ c .if7 .taken)
 
 returns-8 : tie.Need-returns-8
+returns-8 c = found _ 7 refl (past7 (c .before .before .before)) (sym (c .before .same8 .ensures) ∙ c .if8 .taken)
+
+returns-9 : tie.Need-returns-9
 unfolding rowsBefore
-returns-8 c = past7 c
+returns-9 c = past8 c
 
 pub number-for-spec : {M : Type 1} → statement M
 number-for-spec =
@@ -122,4 +131,7 @@ number-for-spec =
     (λ c. search needs)
     (λ c κs. search needs)
     returns-7
-    returns-8)
+    (λ c. search needs)
+    (λ c κs. search needs)
+    returns-8
+    returns-9)

@@ -26,15 +26,20 @@ returns-7 : tie.Need-returns-7
 returns-7 c = rw (c .before .before .match .keys7) (c .read-values7 .ensures)
 
 returns-8 : tie.Need-returns-8
-returns-8 c =
+returns-8 c = rw (c .before .before .match .keys8) (c .read-values8 .ensures)
+
+returns-9 : tie.Need-returns-9
+returns-9 c =
     let none = c .before .before .match .rest in
-    rw (no-settings _ (none .0 .0 .0 .0 .0 .0 .1) (none .0 .0 .0 .0 .0 .1) (none .0 .0 .0 .0 .1) (none .0 .0 .0 .1) (none .0 .0 .1) (none .0 .1) (none .1))
-    (c .read-values8 .ensures)
+    rw (no-settings _ (none .0 .0 .0 .0 .0 .0 .0 .1) (none .0 .0 .0 .0 .0 .0 .1) (none .0 .0 .0 .0 .0 .1) (none .0 .0 .0 .0 .1) (none .0 .0 .0 .1) (none .0 .0 .1) (none .0 .1) (none .1))
+    (c .read-values9 .ensures)
 
 pub read-settings-spec : {M : Type 1} → statement M
 read-settings-spec =
     tie.close
     (tie.spec
+    (λ c. search needs)
+    (λ c κs. search needs)
     (λ c. search needs)
     (λ c κs. search needs)
     (λ c. search needs)
@@ -58,4 +63,5 @@ read-settings-spec =
     returns-5
     returns-6
     returns-7
-    returns-8)
+    returns-8
+    returns-9)

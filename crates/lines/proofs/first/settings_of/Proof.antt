@@ -6,10 +6,10 @@ use Rattle.lines.proofs.Naming.{no-settings}
 use Rattle.lines.proofs.first.settings_of.Statement.{statement}
 use Rattle.lines.proofs.first.settings_of.Tie as tie
 
-returns-8 : tie.Need-returns-8
-returns-8 c =
+returns-9 : tie.Need-returns-9
+returns-9 c =
     let none = c .match .rest in
-    sym (ap length (no-settings _ (none .0 .0 .0 .0 .0 .0 .1) (none .0 .0 .0 .0 .0 .1) (none .0 .0 .0 .0 .1) (none .0 .0 .0 .1) (none .0 .0 .1) (none .0 .1) (none .1)))
+    sym (ap length (no-settings _ (none .0 .0 .0 .0 .0 .0 .0 .1) (none .0 .0 .0 .0 .0 .0 .1) (none .0 .0 .0 .0 .0 .1) (none .0 .0 .0 .0 .1) (none .0 .0 .0 .1) (none .0 .0 .1) (none .0 .1) (none .1)))
 
 pub settings-of-spec : {M : Type 1} → statement M
 settings-of-spec =
@@ -22,4 +22,5 @@ settings-of-spec =
     (λ c. search needs)
     (λ c. search needs)
     (λ c. search needs)
-    returns-8)
+    (λ c. search needs)
+    returns-9)

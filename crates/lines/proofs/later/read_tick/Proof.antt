@@ -33,6 +33,9 @@ returns-7 c = rw (c .before .before .enum-told6 .given .1, items-short _ (c .bef
 returns-8 : tie.Need-returns-8
 returns-8 c = rw (c .before .before .enum-told7 .given .1, items-short _ (c .before .before .before .before .if1 .left)) (c .read-values7 .ensures)
 
+returns-9 : tie.Need-returns-9
+returns-9 c = rw (c .before .before .enum-told8 .given .1, items-short _ (c .before .before .before .before .if1 .left)) (c .read-values8 .ensures)
+
 pub read-tick-spec : {M : Type 1} → statement M
 read-tick-spec =
     tie.close
@@ -60,10 +63,14 @@ read-tick-spec =
     (λ c. search needs)
     (λ c. search needs)
     (λ c κs. search needs)
+    (λ c. search needs)
+    (λ c. search needs)
+    (λ c κs. search needs)
     returns-2
     returns-3
     returns-4
     returns-5
     returns-6
     returns-7
-    returns-8)
+    returns-8
+    returns-9)

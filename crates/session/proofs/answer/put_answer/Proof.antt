@@ -32,10 +32,16 @@ returns-7 : tie.Need-returns-7
 unfolding answerText
 returns-7 c = rw (c .before .before .before .before .enum-told7 .given .1) (c .before .before .put-boolean3 .ensures)
 
+returns-8 : tie.Need-returns-8
+unfolding answerText
+returns-8 c = rw (c .before .before .before .before .enum-told8 .given .1) (c .before .before .put-boolean4 .ensures)
+
 pub put-answer-spec : {M : Type 1} → statement M
 put-answer-spec =
     tie.close
     (tie.spec
+    (λ c. search needs)
+    (λ c κs. search needs)
     (λ c. search needs)
     (λ c κs. search needs)
     (λ c. search needs)
@@ -63,4 +69,6 @@ put-answer-spec =
     (λ c. search needs)
     returns-6
     (λ c. search needs)
-    returns-7)
+    returns-7
+    (λ c. search needs)
+    returns-8)

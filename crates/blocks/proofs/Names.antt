@@ -55,7 +55,7 @@ module _ (P : ℕ → Block → Type 0) (w : List ℕ)
     (accumulating : P 3 (TimerAccumulating (realOf (getD w 0 0)))) (delay : P 4 (TrueDelay (realOf (getD w 0 0)) (flagOf (getD w 1 0))))
     (false-hold : P 5 (TrueFalseHold (realOf (getD w 0 0)) (realOf (getD w 1 0)))) (reset-hold : P 6 (TrueHoldWithReset (realOf (getD w 0 0))))
     (pulse : P 7 (LogicalVariablePulse (realOf (getD w 0 0)) (realOf (getD w 1 0)) (realOf (getD w 2 0)))) where
-  each : (n : ℕ) (b : Block) → namedBy n w ≡ variant.Block b → P n b
+  pub each : (n : ℕ) (b : Block) → namedBy n w ≡ variant.Block b → P n b
   unfolding namedBy
   each zero b e = subst (P 0) (given (namesController w) _ e) pid
   each (suc zero) b e = subst (P 1) (given (namesController w) _ e) with-reset

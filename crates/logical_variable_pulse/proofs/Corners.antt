@@ -6,9 +6,9 @@ use lib.Ieee.{Float, nan, inf, fin, binary64, lt, le, sub}
 use lib.Ieee.Scale.{finite}
 use Rattle.reals.specs.Words.{0·0, 1·0}
 use Rattle.reals.specs.Rounding.{magnitude}
-use Rattle.reals.proofs.Order.{le-transitive}
+use Rattle.reals.proofs.Order.{lt-not-ge}
 use Rattle.logical_variable_pulse.specs.LogicalVariablePulse.{widthChanged, cycleOutput}
-use Rattle.logical_variable_pulse.proofs.Holding.{none-above}
+use Rattle.logical_variable_pulse.proofs.Holding.{above-zero}
 
 -- ---- the width
 less-nan : (x : Float) → sub binary64 x nan ≡ nan
@@ -56,8 +56,4 @@ module _ (time u t0 period : Float) where
   -- the whole, or more: true, where time and anchor are finite
   pub all-asked : finite time ≡ true → finite t0 ≡ true → finite u ≡ true → le 1·0 u ≡ true → cycleOutput time u t0 period ≡ true
   unfolding cycleOutput
-  all-asked a b c l = rw (a, b, c, some (le u 0·0) refl, l) refl
-    where
-      some : (none : Bool) → le u 0·0 ≡ none → le u 0·0 ≡ false
-      some true e = absurd (none-above (le-transitive _ _ _ (passes _ l) (passes _ e)))
-      some false e = e
+  all-asked a b c l = rw (a, b, c, lt-not-ge 0·0 u (above-zero u (passes _ l)), l) refl

@@ -4,7 +4,7 @@ use mathlib.Core.Bool.{Bool, true, false}
 use denote.Floats.{passes}
 use lib.Dec.{T}
 use lib.Ieee.{Float, lt, le}
-use Rattle.reals.specs.Words.{0·0}
+use Rattle.reals.specs.Words.{0·0, 1·0}
 use Rattle.reals.proofs.Order.{le-right, le-transitive, le-of-not-lt}
 use Rattle.dynamics.specs.Leaves.{positiveDuration}
 use Rattle.true_false_hold.specs.TrueFalseHold as hold
@@ -14,19 +14,22 @@ use Rattle.logical_variable_pulse.specs.declared.LogicalVariablePulse.{L
 use Rattle.logical_variable_pulse.specs.declared.state.State.{State}
 use Rattle.logical_variable_pulse.proofs.Limits.{within}
 
--- a second or more is above 0.0
-pub none-above : T (le leastHold 0·0) → ⊥
+-- 1.0 and more is above 0.0
+none-above : T (le 1·0 0·0) → ⊥
 unfolding le
 none-above l = l
 
--- so it is a positive duration as it is
+pub above-zero : (x : Float) → T (le 1·0 x) → lt 0·0 x ≡ true
+above-zero x l = go (lt 0·0 x) refl
+  where
+    go : (above : Bool) → lt 0·0 x ≡ above → lt 0·0 x ≡ true
+    go true e = e
+    go false e = absurd (none-above (le-transitive _ _ _ l (le-of-not-lt x 0·0 (le-right _ _ l) tt e)))
+
+-- so a second or more is a positive duration as it is
 positive : (x : Float) → T (le leastHold x) → positiveDuration x ≡ x
 unfolding positiveDuration
-positive x l = go (lt 0·0 x) refl
-  where
-    go : (above : Bool) → lt 0·0 x ≡ above → positiveDuration x ≡ x
-    go true e = rw e refl
-    go false e = absurd (none-above (le-transitive _ _ _ l (le-of-not-lt x 0·0 (le-right _ _ l) tt e)))
+positive x l = rw (above-zero x l) refl
 
 module _ (b : LogicalVariablePulse) (ok : settingsAccepted b ≡ true) where
   -- the hold of both durations

@@ -1,11 +1,10 @@
 -- 4110 words are room for the state of every block that a first line names, but for an average of more than 1024 seconds. Assumes nothing.
-use Prim.Native.Nat.{ℕ, zero, suc}
-use mathlib.Core.Path.{_≡_, refl, sym, subst}
+use Prim.Native.Nat.{ℕ}
+use mathlib.Core.Path.{_≡_, refl}
 use mathlib.Core.List.{List, [], _∷_}
 use mathlib.Core.Bool.{Bool, true, false, not}
-use native.Mathlib.Omega.{arith}
 use borrow.Author.Tests.{ltb-true, ltb-false, lt-leb, le-leb}
-use lib.Dec.{T, leb, ltb, eqb}
+use lib.Dec.{T, leb, ltb}
 use lib.ListN.{length}
 use lib.Ieee.{binary64, fits, lt}
 use Rattle.reals.specs.Words.{nearest}
@@ -19,8 +18,8 @@ use Rattle.controller.specs.declared.config.ControllerType.the-variants as type
 use Rattle.pid.specs.Pid.{stateLength}
 use Rattle.moving_average.specs.MovingAverage.{machineFor}
 use Rattle.blocks.specs.Block.{machineOf}
-use Rattle.blocks.specs.Named.{named, namesController, namedBy}
-use Rattle.blocks.proofs.Names.{above}
+use Rattle.blocks.specs.Named.{namedBy}
+use Rattle.blocks.proofs.Names.{each}
 use Rattle.blocks.specs.declared.block.Block.{Block}
 use Rattle.blocks.specs.declared.block.Block.the-variants.{Pid, PidWithReset, MovingAverage, TimerAccumulating, TrueDelay, TrueFalseHold, TrueHoldWithReset, LogicalVariablePulse}
 use Rattle.blocks.specs.declared.named.Named.{Named}
@@ -47,21 +46,12 @@ abbrev pub F64In : Named → Type 0
 F64In (variant.Block b) = IsF64 b
 F64In Nothing = Unit {0}
 
-if-named : (are : Bool) (b : Block) → IsF64 b → F64In (named are b)
-if-named true b h = h
-if-named false b h = tt
+if-named : (x : Named) → ((b : Block) → x ≡ variant.Block b → IsF64 b) → F64In x
+if-named (variant.Block b) h = h b refl
+if-named Nothing h = tt
 
 f64-named : (n : ℕ) (w : List ℕ) → F64In (namedBy n w)
-unfolding namedBy
-f64-named zero w = if-named (namesController w) _ tt
-f64-named (suc zero) w = if-named (namesController w) _ tt
-f64-named (suc (suc zero)) w = if-named (eqb (length w) 1) _ (real-fits _)
-f64-named (suc (suc (suc zero))) w = if-named (eqb (length w) 1) _ tt
-f64-named (suc (suc (suc (suc zero)))) w = if-named (eqb (length w) 2) _ tt
-f64-named (suc (suc (suc (suc (suc zero))))) w = if-named (eqb (length w) 2) _ tt
-f64-named (suc (suc (suc (suc (suc (suc zero)))))) w = if-named (eqb (length w) 1) _ tt
-f64-named (suc (suc (suc (suc (suc (suc (suc zero))))))) w = if-named (eqb (length w) 3) _ tt
-f64-named (suc (suc (suc (suc (suc (suc (suc (suc n)))))))) w = subst F64In (sym (above (suc (suc (suc (suc (suc (suc (suc (suc n)))))))) w (omega arith))) tt
+f64-named n w = if-named (namedBy n w) (each (λ m b. IsF64 b) w tt tt (real-fits _) tt tt tt tt tt n)
 
 f64-said : (n : ℕ) (ws : Words) → F64In (namedWith n ws)
 f64-said n (said ws) = f64-named n ws

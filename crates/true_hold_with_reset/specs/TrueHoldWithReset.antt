@@ -3,15 +3,14 @@ use mathlib.Core.Bool.{Bool, true, false, _&&_, _||_, cond}
 use lib.Ieee.{Float, lt}
 use lib.Ieee.Scale.{finite}
 use Rattle.reals.specs.Words.{0·0, flagOf}
-use Rattle.reals.specs.Arithmetic.{_⊕_}
-use Rattle.dynamics.specs.Previous.{gap, isFirst}
+use Rattle.dynamics.specs.Previous.{isFirst}
 use Rattle.dynamics.specs.Leaves.{positiveDuration, timed}
 use Rattle.dynamics.specs.Machine.{Machine}
 use Rattle.dynamics.specs.Stepped.{Stepped, steppedMachine}
 use Rattle.dynamics.specs.declared.call.Inputs.{Inputs}
 use Rattle.dynamics.specs.declared.leaf.Timed.{Timed}
 use Rattle.dynamics.specs.declared.previous.Previous.the-variants.{At}
-use Rattle.hold.specs.Hold.{holdOf}
+use Rattle.hold.specs.Hold.{lasted, holdOf}
 use Rattle.hold.specs.declared.State.{State}
 use Rattle.true_hold_with_reset.specs.declared.TrueHoldWithReset.{TrueHoldWithReset}
 
@@ -19,7 +18,7 @@ use Rattle.true_hold_with_reset.specs.declared.TrueHoldWithReset.{TrueHo
 
 -- how long a true output has lasted, the gap included; 0.0 for a false one
 unfoldable pub runTime : State → Float → Float
-runTime s time = cond (s .held) (s .timer ⊕ gap time (s .previous)) 0·0
+runTime s time = cond (s .held) (lasted s time) 0·0
 
 -- the input is true, or the output is and its run is below the positive duration
 unfoldable pub holds : TrueHoldWithReset → State → Float → Bool → Bool

@@ -1,7 +1,7 @@
 -- Times are in order up to a previous time exactly if the first is finite and a walk along them climbs to that time; a walk goes in stretches. Assumes nothing.
 use mathlib.Core.Path.{_≡_, refl, sym, _∙_, ap, subst}
 use mathlib.Core.Bool.{Bool, true, false, _&&_, cond}
-use mathlib.Core.Logic.{_⊎_, ⊎-elim}
+use mathlib.Core.Logic.{⊎-elim}
 use Prim.Native.Nat.{ℕ, zero, suc, _+_, _-_, _≤_, _<_}
 use native.Mathlib.Nat.{add-zero, zero-add, eq-or-lt-of-le}
 use native.Mathlib.Numerals.{add-one}
@@ -10,6 +10,7 @@ use borrow.Author.Tests.{eqb-true, eq-eqb}
 use lib.Dec.{T, eqb}
 use lib.Ieee.{Float, nan, inf, fin, le}
 use lib.Ieee.Scale.{finite}
+use denote.Floats.{passes}
 use lib.Ieee.Bits.{is-true}
 use lib.Ieee.Fits.{and-i, and-l, and-r}
 use Rattle.reals.proofs.Values.{agree}
@@ -18,7 +19,7 @@ use Rattle.dynamics.specs.declared.previous.Previous.{Previous}
 use Rattle.dynamics.specs.declared.previous.Previous.the-variants.{Unset, At}
 use Rattle.window.specs.Order.{Ordered, isOrdered}
 use Rattle.window.specs.Walk.{climbed}
-use Rattle.window.proofs.Orders.{yes-is, is-number, ordered-means, means-ordered, none-ordered}
+use Rattle.window.proofs.Orders.{is-number, ordered-means, means-ordered, none-ordered}
 
 -- ---- one place more, and none
 module _ (time : ℕ → Float) where
@@ -115,8 +116,8 @@ module _ (time : ℕ → Float) (p : Float) where
       go true e f =
           let c = f refl in
           record {
-            within = le-transitive last (time n) p (yes-is e) (c .within);
-            first = λ a. yes-is e;
+            within = le-transitive last (time n) p (passes _ e) (c .within);
+            first = λ a. passes _ e;
             up = λ m a b. at-or-on (λ m. T (le (time m) (time (m + 1)))) n m a (λ s. subst (λ (j : ℕ). T (le (time n) (time j))) (sym (add-one n)) (c .first (omega arith))) (λ l. c .up m l (omega arith));
             under = λ m a b. at-or-on (λ m. T (le (time m) p)) n m a (λ s. c .within) (λ l. c .under m l (omega arith));
           }
@@ -153,7 +154,7 @@ module _ (time : ℕ → Float) (count : ℕ) (p : Float) (fp : finite p ≡ tru
   climbs-ordered : T (finite (time 0)) → Walked → Ordered time count (At p)
   climbs-ordered f c =
       record {
-        finites = λ n h. is-true _ (between (time 0) (time n) p f (yes-is fp) (above n h) (below n h));
+        finites = λ n h. is-true _ (between (time 0) (time n) p f (passes _ fp) (above n h) (below n h));
         rises = λ n h. le-not-lt (time n) (time (n + 1)) (c .up n (omega arith) (omega arith));
         past = λ n h. le-not-lt (time n) p (below n h);
         begun = λ e. let z : _≡_ {A = ℕ} 0 1 = cc in absurd (omega arith);
@@ -187,9 +188,9 @@ module _ (time : ℕ → Float) (count : ℕ) (p : Float) (fp : finite p ≡ tru
       let f = finite (time 0) in
       let l = le (climbed time 0 count (time 0)) p in
       agree (f && l) (isOrdered time count (At p))
-      (λ h. yes-is (means-ordered time count (At p) (climbs-ordered (and-l f l h) (climbed-climbs time p count 0 (time 0) (and-r f l h)))))
+      (λ h. passes _ (means-ordered time count (At p) (climbs-ordered (and-l f l h) (climbed-climbs time p count 0 (time 0) (and-r f l h)))))
       (λ h. let o = ordered-means time count (At p) (is-true _ h) in
-      and-i f l (yes-is (o .finites 0 some)) (climbs-climbed time p count 0 (time 0) (ordered-climbs o)))
+      and-i f l (passes _ (o .finites 0 some)) (climbs-climbed time p count 0 (time 0) (ordered-climbs o)))
 
   -- the first time is looked at, then the walk goes from it
   module _ {first : Float} (is : first ≡ time 0) {f : Bool} (tested : f ≡ finite first) where
@@ -203,5 +204,5 @@ module _ (time : ℕ → Float) (count : ℕ) (p : Float) (fp : finite p ≡ tru
 pub unset-ordered : (time : ℕ → Float) (count : ℕ) → eqb count 0 ≡ isOrdered time count Unset
 unset-ordered time count =
     agree (eqb count 0) (isOrdered time count Unset)
-    (λ h. yes-is (none-walked time count Unset (eqb-true _ _ (is-true _ h))))
-    (λ h. yes-is (eq-eqb _ _ (ordered-means time count Unset (is-true _ h) .begun refl)))
+    (λ h. passes _ (none-walked time count Unset (eqb-true _ _ (is-true _ h))))
+    (λ h. passes _ (eq-eqb _ _ (ordered-means time count Unset (is-true _ h) .begun refl)))

@@ -1,11 +1,12 @@
 -- Times in order, by position: what the yes or no says, and what keeps the order: fewer of them, and a time after the last one or in its place, -0.0 after 0.0 too. Assumes nothing.
 use mathlib.Core.Path.{_≡_, refl, sym, _∙_, ap, subst}
 use mathlib.Core.Bool.{Bool, true, false, not, _||_}
-use mathlib.Core.Logic.{_⊎_, ⊎-elim}
+use mathlib.Core.Logic.{⊎-elim}
 use Prim.Native.Nat.{ℕ, zero, suc, _+_, _-_, _≤_, _<_}
 use native.Mathlib.Nat.{add-assoc, eq-or-lt-of-le}
 use native.Mathlib.Omega.{arith}
 use borrow.Author.Tests.{eqb-true, eq-eqb, not-true}
+use denote.Floats.{passes}
 use lib.Dec.{T, eqb}
 use lib.Ieee.{Float, lt}
 use lib.Ieee.Scale.{finite}
@@ -16,10 +17,7 @@ use Rattle.dynamics.specs.declared.previous.Previous.{Previous}
 use Rattle.dynamics.specs.declared.previous.Previous.the-variants.{Unset, At}
 use Rattle.window.specs.Order.{isAbove, Ordered, all, isOrdered}
 
--- ---- a test that passes, and one that does not
-pub yes-is : {b : Bool} → b ≡ true → T b
-yes-is e = subst T (sym e) tt
-
+-- ---- a test that does not pass
 not-yes : {b : Bool} → b ≡ false → not b ≡ true
 not-yes e = rw e refl
 
@@ -88,7 +86,7 @@ dropped-ordered old new count k p on o =
 
 -- ---- store: t at a position, after the last time or in its place
 pub is-number : (x : Float) → finite x ≡ true → T (number x)
-is-number x f = finite-number x (yes-is f)
+is-number x f = finite-number x (passes _ f)
 
 -- a time that does not run back is not below one that is not above the previous time
 not-before : (t x : Float) (p : Previous) → finite t ≡ true → finite x ≡ true → (p ≡ Unset → ⊥) → soundPrevious p ≡ true → runsBack t p ≡ false → isAbove x p ≡ false → lt t x ≡ false

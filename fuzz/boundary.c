@@ -3,6 +3,7 @@
 #include "checks.h"
 #include "classes.h"
 #include "due.h"
+#include "leaves.h"
 #include "pulses.h"
 #include "rings.h"
 

@@ -14,14 +14,11 @@ extern uint64_t counts[KINDS][NUMBERS];
 uint64_t calls_of(enum kind kind);
 uint64_t calls_made(void);
 
-/* How many ticks runs had, and how many leaves were called. */
-extern uint64_t run_ticks, leaf_calls;
+/* How many ticks runs had. */
+extern uint64_t run_ticks;
 
 /* Makes the call on both sides and checks all that it gives. */
 void check_call(const struct call *call, struct outcome *outcome);
-
-/* Calls each leaf with the first of these four words. */
-void check_leaves(const uint64_t *words);
 
 /* Says what is wrong, and with which call; does not come back. */
 void fail(const char *why);

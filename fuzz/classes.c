@@ -1,6 +1,7 @@
 /* The classes that calls must meet, and how often they did. */
 #include "classes.h"
 #include "due.h"
+#include "leaves.h"
 #include "pulse_classes.h"
 #include "sound_classes.h"
 
@@ -185,6 +186,7 @@ void report_classes(int *met, int *missed) {
     report_counts("boolean settings neither 0 nor 1, of a block and in rows", booleans, OWNERS, met, missed);
     report_rings(met, missed);
     report_pulses(met, missed);
+    report_rounding(met, missed);
     report_counts(
         "fed words, a real, NaN and true as reals, a real, -0.0 and true as booleans, false, second true, no second, not read",
         feds, FEDS, met, missed);

@@ -1,6 +1,7 @@
 /* What calls must meet beside their numbers: refused lengths that are far off, boolean settings of any word, sums of -0.0, rings
- * that are sound or wrong in one place (sound_classes.h), pulses where their rules turn (pulse_classes.h), and of rows that feed
- * rows which words they hand on, how long a chain of them is, and which columns are refused. */
+ * that are sound or wrong in one place (sound_classes.h), pulses where their rules turn (pulse_classes.h), words where rounding
+ * turns (leaves.h), and of rows that feed rows which words they hand on, how long a chain of them is, and which columns are
+ * refused. */
 #ifndef CLASSES_H
 #define CLASSES_H
 

@@ -11,6 +11,7 @@
 #include "caught.h"
 #include "checks.h"
 #include "classes.h"
+#include "leaves.h"
 
 #include <inttypes.h>
 #include <stdio.h>

@@ -1,9 +1,12 @@
 /*
  * Wrong libraries: the proved calls with one slip each. The linker puts them in the place of the library's
  * (`-Wl,--wrap=oven_start` and so on), and the variable WRONG says which slip there is. random_calls must catch each.
- * Without a slip too, what is found of a ring, a pulse's tick and rows that are fed are made here: they must be the library's.
+ * Without a slip too, what is found of a ring, rounding, a pulse's tick and rows that are fed are made here: they must be the
+ * library's.
  */
 #include "wrong.h"
+#include "due.h"
+#include "leaves.h"
 #include "rings.h"
 
 #include <stdlib.h>
@@ -34,6 +37,8 @@ PAIR(oven_sound);
 PAIR(oven_decode);
 PAIR(oven_sheet_start);
 PAIR(oven_sheet_tick);
+PAIR(oven_ceil);
+PAIR(oven_floor);
 
 /* How many settings a block has, and how many words its region. */
 static size_t settings_of(uint64_t block) {
@@ -117,6 +122,24 @@ static void store_later(uint64_t block, uint64_t number, uint64_t *w, size_t nw)
         w[ring_place(w, nw, w[RING_COUNT] - 1)]++;
     }
 }
+
+/* ---- Rounding. */
+
+/* Up, or else down, by adding 2^52 to the size and taking it away, as the slip has it. */
+static uint64_t round_own(uint64_t word, int up) {
+    const double x = oven_real(word), size = x < 0.0 ? -x : x, two_52 = 4503599627370496.0;
+    const double bound = has(KEEPS_HALVES_FROM_2_51_ON) ? two_52 / 2.0 : has(MOVES_WHOLES_BELOW_2_53) ? two_52 * 2.0 : two_52;
+    if (!(size < bound)) {
+        return due_canonical(word);
+    }
+    const double near = size + two_52 - two_52;
+    const int stays = has(up ? ROUNDS_UP_ONE_TOO_LOW : ROUNDS_DOWN_ONE_TOO_HIGH), grows = (x > 0.0) == up;
+    const double whole = near + (stays ? 0.0 : grows && near < size ? 1.0 : !grows && size < near ? -1.0 : 0.0);
+    return oven_word(whole) | (has(ROUNDS_TO_A_ZERO_WITHOUT_SIGN) && whole == 0.0 ? 0 : word & 1ULL << 63);
+}
+
+uint64_t __wrap_oven_ceil(uint64_t word) { return round_own(word, 1); }
+uint64_t __wrap_oven_floor(uint64_t word) { return round_own(word, 0); }
 
 /* ---- Pulses. */
 

@@ -17,17 +17,17 @@ use Rattle.reals.proofs.Words.{real-word}
 use Rattle.reals.proofs.Values.{unique, same-fraction}
 
 -- ---- the fields, and what they mean
-pub read : (b : ℕ) → realOf b ≡ ofFields binary64 (leb (2 ^ 63) b) (b / 2 ^ 52 % 2 ^ 11) (b % 2 ^ 52)
+read : (b : ℕ) → realOf b ≡ ofFields binary64 (leb (2 ^ 63) b) (b / 2 ^ 52 % 2 ^ 11) (b % 2 ^ 52)
 unfolding ofBits
 read b = ap (λ (x : ℕ). ofFields binary64 (leb (2 ^ 63) b) x (b % 2 ^ 52)) (field b 11 52)
 
 -- with the exponent's field 0 the digits are a number of smallest values
-pub subnormal : (s : Bool) (t : ℕ) → HasValue (ofFields binary64 s 0 t) s (t * 2 ^ 0) (2 ^ 1074)
+subnormal : (s : Bool) (t : ℕ) → HasValue (ofFields binary64 s 0 t) s (t * 2 ^ 0) (2 ^ 1074)
 unfolding ofFields
 subnormal s t = odd-sign 53 s t 0 1074
 
 -- any other below 2047 puts a leading digit in front, and counts how far they are moved up
-pub normal : (s : Bool) (x t : ℕ) → suc x < 2047 → HasValue (ofFields binary64 s (suc x) t) s ((2 ^ 52 + t) * 2 ^ x) (2 ^ 1074)
+normal : (s : Bool) (x t : ℕ) → suc x < 2047 → HasValue (ofFields binary64 s (suc x) t) s ((2 ^ 52 + t) * 2 ^ x) (2 ^ 1074)
 unfolding ofFields
 normal s x t h =
     let n : suc x ≡ 2047 → ⊥ = λ e. omega arith in

@@ -5,8 +5,8 @@ pub mod Fields
 pub mod Order
 pub mod Sums
 pub mod Magnitude
-pub mod Cut
 pub mod Whole
+pub mod Beside
 pub mod Counts
 pub mod Meaning
 pub mod Once

@@ -1,7 +1,7 @@
 -- Rounding and the absolute value mean what they should over whole numbers, and only they do. Assumes nothing.
 use mathlib.Core.Path.{_≡_, refl, sym, ap, _∙_, subst}
-use Prim.Native.Nat.{ℕ, zero, suc, _+_, _-_, _*_, _/_, _≤_, _<_, zero-le}
-use native.Mathlib.Nat.{le-antisymm, mul-le-mul-left, zero-mul, mul-one, mul-right-comm, div-mul-le-self, lt-div-mul-add, le-div-iff-mul-le, div-lt-iff-lt-mul, le-of-suc-le-suc, suc-mul}
+use Prim.Native.Nat.{ℕ, zero, suc, _+_, _*_, _/_, _≤_, _<_, zero-le}
+use native.Mathlib.Nat.{le-antisymm, mul-le-mul-left, zero-mul, mul-one, mul-right-comm, div-mul-le-self, le-of-suc-le-suc}
 use native.Mathlib.Omega.{arith}
 use mathlib.Core.Bool.{Bool, true, false}
 use lib.Dec.{T, le→leb, leb→le}
@@ -16,7 +16,7 @@ use Rattle.reals.specs.Rounding.{Way, upward, downward, whole, wholeAbov
 use Rattle.reals.proofs.Values.{unique, same-fraction}
 use Rattle.reals.proofs.Fields.{value-finite}
 use Rattle.reals.proofs.Order.{Le}
-use Rattle.reals.proofs.Whole.{whole-value}
+use Rattle.reals.proofs.Whole.{above-reaches, above-first, below-first, whole-value}
 
 -- ---- a whole number as a sign and a size
 le-signed : (s : Bool) (a : ℕ) (t : Bool) (b : ℕ) → Le s a t b → signed s a ≤ℤ signed t b
@@ -60,15 +60,6 @@ signed-mul true (suc n) c = negsuc-*ℤ-pos n c
 abbrev LeWay : Way → Bool → ℕ → Bool → ℕ → Type 0
 LeWay upward s a t b = Le s a t b
 LeWay downward s a t b = Le t b s a
-
-above-reaches : (a c : ℕ) → 0 < c → a ≤ wholeAbove a c * c
-above-reaches a c C = omega (arith, lt-div-mul-add {a = a + (c - 1)} C)
-
-above-first : (a c k : ℕ) → 0 < c → a ≤ k * c → wholeAbove a c ≤ k
-above-first a c k C h = le-of-suc-le-suc (div-lt-iff-lt-mul C .1 (rw suc-mul (omega arith)))
-
-below-first : (a c k : ℕ) → 0 < c → k * c ≤ a → k ≤ a / c
-below-first a c k C h = le-div-iff-mul-le C .1 h
 
 -- a / c and a whole k of the other sign are both zero
 no-size : (a c k : ℕ) → 0 < c → a + k * c ≡ 0 → wholeAbove a c + k ≡ 0

@@ -7,7 +7,6 @@ use Rattle.reals.proofs.word.flag_of.Reads as flag-of
 use Rattle.reals.proofs.word.word_of_flag.Reads as word-of-flag
 use Rattle.reals.proofs.word.is_finite.Reads as is-finite
 use Rattle.reals.proofs.rounding.absolute.Reads as absolute
-use Rattle.reals.proofs.rounding.truncated.Reads as truncated
 use Rattle.reals.proofs.rounding.ceil.Reads as ceil
 use Rattle.reals.proofs.rounding.floor.Reads as floor
 
@@ -31,9 +30,6 @@ is-finite-once = equation-once
 
 pub absolute-once : Once absolute.Post
 absolute-once = equation-once
-
-pub truncated-once : Once truncated.Post
-truncated-once = equation-once
 
 pub ceil-once : Once ceil.Post
 ceil-once = equation-once

@@ -1,7 +1,7 @@
 -- A finite real as a fraction: `HasValue x s a c` says that x is a / c with the sign s. A fraction has one real at most, and a real rounds to itself. Assumes nothing.
 use mathlib.Core.Path.{_≡_, refl, sym, ap, _∙_}
 use Prim.Native.Nat.{ℕ, zero, suc, _+_, _-_, _*_, _/_, _^_, _<_}
-use native.Mathlib.Nat.{mul-right-comm, eq-of-mul-eq-mul-right}
+use native.Mathlib.Nat.{mul-comm, mul-sub, mul-right-comm, eq-of-mul-eq-mul-right}
 use mathlib.Core.Bool.{Bool, true, false, _&&_, cond, true≢false}
 use lib.Dec.{T}
 use lib.IntN.{ℤ}
@@ -25,6 +25,10 @@ both false q e = absurd (true≢false (sym e))
 
 pub both-pass : {p q : Bool} → p ≡ true → q ≡ true → p && q ≡ true
 both-pass e f = rw (e, f) refl
+
+-- a difference of multiples
+pub less-mul : (n k d : ℕ) → n * d - k * d ≡ (n - k) * d
+less-mul n k d = sym (mul-comm (n - k) d ∙ mul-sub d n k ∙ ap (λ (z : ℕ). z - d * k) (mul-comm d n) ∙ ap (λ (z : ℕ). n * d - z) (mul-comm d k))
 
 -- equal fractions: x / p is a / c and so is y / q
 pub same-fraction : (x p y q a c : ℕ) → 0 < c → x * c ≡ a * p → y * c ≡ a * q → x * q ≡ y * p

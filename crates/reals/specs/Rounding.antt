@@ -59,14 +59,6 @@ whole w nan = nan
 whole w (inf s) = inf s
 whole w (fin s m e) = round binary64 s (wholeSize w s (m * up e) (down e)) 1
 
--- x without its fraction: rounded toward zero
-abbrev pub toZero : Bool → Way
-toZero false = downward
-toZero true = upward
-
-abbrev pub cut : Float → Float
-cut x = whole (toZero (signOf x)) x
-
 -- what rounding comes to for a finite x, over the whole numbers ℤ; shown in `proofs/Meaning.antt` too
 abbrev pub Before : Way → ℤ → ℤ → Type 0
 Before upward a b = a ≤ℤ b

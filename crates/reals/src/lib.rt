@@ -5,7 +5,6 @@ pub mod word;
 pub use rounding::absolute;
 pub use rounding::ceil;
 pub use rounding::floor;
-pub use rounding::truncated;
 pub use word::canonical;
 pub use word::flag_of;
 pub use word::is_finite;

@@ -1,8 +1,12 @@
-// Absolute value, and rounding to a whole number by cutting bits.
-use crate::word::real_of;
-use crate::word::word_of;
+// Absolute value, and rounding to a whole number by comparisons and by adding 2^52 and taking it away.
 ghost use mathlib.Core.Path.{_≡_};
-ghost use Rattle.reals.specs.Rounding.{magnitude, whole, cut, upward, downward};
+ghost use mathlib.Core.Bool.{cond};
+ghost use lib.Ieee.{lt, neg};
+ghost use Rattle.reals.specs.Words.{0·0};
+ghost use Rattle.reals.specs.Rounding.{magnitude, whole, upward, downward};
+
+// From here on every real is a whole number: there is no place for a fraction.
+const TWO_52: f64 = 4503599627370496.0;
 
 // The same size without its sign.
 pub fn absolute(x: f64) -> f64
@@ -17,36 +21,59 @@ pub fn absolute(x: f64) -> f64
     x
 }
 
-// x without its fraction: the bits that stand for less than one are cut off.
-pub fn truncated(x: f64) -> f64
-    ensures { λ r. ⌜ r ≡ cut x ⌝ }
+// The size of x; a zero keeps its sign.
+fn size_of(x: f64) -> f64
+    ensures { λ r. ⌜ r ≡ cond (lt x 0·0) (neg x) x ⌝ }
 {
-    let bits = word_of(x);
-    let exponent = (bits >> 52) % 2048;
-    // Below one: only the sign is left.
-    if exponent < 1023 {
-        return real_of(bits >> 63 << 63);
+    if x < 0.0 {
+        return -x;
     }
-    // No bit below the point: a whole number, an infinity or the NaN.
-    if exponent >= 1075 {
+    x
+}
+
+// x rounded to a whole number, up or down. Below zero its size goes the other way.
+fn to_whole(x: f64, up: bool) -> f64
+    ensures { λ r. ⌜ r ≡ whole (cond up upward downward) x ⌝ }
+{
+    let size = size_of(x);
+    // Whole already, an infinity or the NaN.
+    if !(size < TWO_52) {
         return x;
     }
-    let places = 1075 - exponent;
-    real_of(bits >> places << places)
+    // The sum has no place for a fraction: what is left is a whole number next to the size.
+    let near = size + TWO_52 - TWO_52;
+    if 0.0 < x {
+        if up & (near < x) {
+            return near + 1.0;
+        }
+        if !up & (x < near) {
+            return near - 1.0;
+        }
+        return near;
+    }
+    if x < 0.0 {
+        if up & (size < near) {
+            return -(near - 1.0);
+        }
+        if !up & (near < size) {
+            return -(near + 1.0);
+        }
+        return -near;
+    }
+    // A zero, with its sign.
+    x
 }
 
 // The least whole number not below x.
 pub fn ceil(x: f64) -> f64
     ensures { λ r. ⌜ r ≡ whole upward x ⌝ }
 {
-    let cut = truncated(x);
-    if cut < x { cut + 1.0 } else { cut }
+    to_whole(x, true)
 }
 
 // The greatest whole number not above x.
 pub fn floor(x: f64) -> f64
     ensures { λ r. ⌜ r ≡ whole downward x ⌝ }
 {
-    let cut = truncated(x);
-    if x < cut { cut - 1.0 } else { cut }
+    to_whole(x, false)
 }

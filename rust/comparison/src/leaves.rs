@@ -1,8 +1,10 @@
 //! Leaves over words, held to the published `dynamics.rs`, to the standard library and, where no
 //! body is published, to document 01's sentence in `oce_model`.
-use crate::inputs::{Rng, any_real};
+use crate::inputs::{Rng, any_real, turning_word};
 use crate::model::leaves as model;
 use crate::model::leaves::{UNSET, word_of};
+use crate::rounding_classes::{self, RoundingClass};
+use crate::tally::{Tally, met};
 use oce_blocks::access::leaves as published;
 use oce_model::determinism::{canonicalize_real, det_max};
 
@@ -104,23 +106,69 @@ pub fn words(r: &mut Rng) -> [u64; 4] {
     w
 }
 
+/// What a leaf is tried on, and what it gives there.
+#[derive(Clone, Copy, Debug, PartialEq, Eq, PartialOrd, Ord)]
+enum LeafClass {
+    /// Another word than the first.
+    Moved,
+    Zero,
+    /// The first word, of a leaf that rounds.
+    Rounds(RoundingClass),
+}
+
+use LeafClass::*;
+
+/// Whether this leaf rounds to a whole number.
+fn is_rounding(name: &str) -> bool {
+    name == "ceil" || name == "floor"
+}
+
+/// What a comparison of this leaf must meet.
+fn expected_classes(name: &str) -> Vec<LeafClass> {
+    let mut expected = vec![Moved, Zero];
+    if is_rounding(name) {
+        expected.extend(rounding_classes::all().into_iter().map(Rounds));
+    }
+    expected
+}
+
+/// The words of this leaf: half of the first ones of a rounding lie where it turns.
+fn words_of(name: &str, r: &mut Rng) -> [u64; 4] {
+    let mut w = words(r);
+    if is_rounding(name) && r.one_in(2) {
+        w[0] = turning_word(r);
+    }
+    w
+}
+
+/// The classes of a first word and of what is due.
+fn classes(name: &str, word: u64, due: u64) -> impl Iterator<Item = LeafClass> {
+    let rounded = is_rounding(name).then(|| rounding_classes::of(word));
+    let rounded = rounded.into_iter().flatten().map(Rounds);
+    met([(Moved, due != word), (Zero, due << 1 == 0)]).chain(rounded)
+}
+
 /// The first words at which a leaf differs from the published one, to the bit, with both results.
-/// Leaves that moved nothing, or never gave a zero, were not tried: that is a difference too.
+/// A leaf that was not tried on all that it must be differs too.
+fn difference(name: &str, [mine, theirs]: [Leaf; 2], runs: u64, mut r: Rng) -> Option<String> {
+    let mut tally = Tally::default();
+    for _ in 0..runs {
+        let w = words_of(name, &mut r);
+        let (got, due) = (mine(w), theirs(w));
+        if got != due {
+            return Some(format!("{name} {w:X?}: got {got:016X}, due {due:016X}"));
+        }
+        classes(name, w[0], due).for_each(|class| tally.see(class));
+    }
+    let missing = tally.missing(&expected_classes(name));
+    (!missing.is_empty()).then(|| format!("{name}: never met {missing:?}"))
+}
+
+/// Where the leaves differ from the published ones, each at first.
 pub fn differences(subject: &Leaves, runs: u64, seed: u64) -> Vec<String> {
     let pairs = subject.each().into_iter().zip(PUBLISHED.each());
-    let mut found = vec![];
-    for (n, ((name, mine), (_, theirs))) in pairs.enumerate() {
-        let mut r = Rng::new(seed, n as u64);
-        let (mut moved, mut zeros) = (0u64, 0u64);
-        let differs = (0..runs).find_map(|_| {
-            let w = words(&mut r);
-            let (got, due) = (mine(w), theirs(w));
-            moved += u64::from(due != w[0]);
-            zeros += u64::from(due << 1 == 0);
-            (got != due).then(|| format!("{name} {w:X?}: got {got:016X}, due {due:016X}"))
-        });
-        let untried = (moved == 0 || zeros == 0).then(|| format!("{name}: not tried"));
-        found.extend(differs.or(untried));
-    }
-    found
+    let differences = pairs.enumerate().map(|(n, ((name, mine), (_, theirs)))| {
+        difference(name, [mine, theirs], runs, Rng::new(seed, n as u64))
+    });
+    differences.flatten().collect()
 }

@@ -18,6 +18,7 @@ mod pulse;
 pub mod pulse_classes;
 mod ring;
 pub mod ring_classes;
+pub mod rounding_classes;
 pub mod sessions;
 pub mod sheet;
 pub mod sheets;

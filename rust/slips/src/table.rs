@@ -2,9 +2,9 @@
 
 pub struct Slip {
     pub name: &'static str,
-    /// The block that must show it.
+    /// The block that must show it; of rounding, the leaves.
     pub block: &'static str,
-    /// The file of the model, and the text in it, which occurs there once.
+    /// The file of the model or `rounding.rs`, and the text in it, which occurs there once.
     pub file: &'static str,
     pub text: &'static str,
     /// What takes its place.

@@ -1,7 +1,9 @@
 //! The comparison with the Rust catches every slip, and finds nothing in the model without one.
 use comparison::compare::compare;
 use comparison::{Calls, Kind, model};
-use slips::{REFUSING, REFUSING_SLIPS, SLIPPED_SOUND, SOUND_SLIPS, Slip, of_blocks};
+use slips::{
+    REFUSING, REFUSING_SLIPS, SLIPPED_SOUND, SLIPPED_USES, SOUND_SLIPS, Slip, USE_SLIPS, of_blocks,
+};
 
 /// Runs of each block, and the seed of their inputs.
 const RUNS: u64 = 4000;
@@ -16,11 +18,13 @@ fn the_model_without_a_slip_differs_nowhere() {
     }
 }
 
-/// The slips of all tables but the sheet's, each with its calls.
+/// The slips of all tables but the sheet's and that of rounding, each with its calls.
 fn all() -> Vec<(&'static Slip, &'static Calls)> {
     let sound = SOUND_SLIPS.iter().zip(&SLIPPED_SOUND);
     let refusing = REFUSING_SLIPS.iter().zip(&REFUSING);
-    of_blocks().chain(sound).chain(refusing).collect()
+    let uses = USE_SLIPS.iter().zip(&SLIPPED_USES);
+    let others = sound.chain(refusing).chain(uses);
+    of_blocks().chain(others).collect()
 }
 
 #[test]

@@ -59,7 +59,8 @@ pub fn absolute(x: f64) -> f64 {
     real_of(x.to_bits() & !SIGN)
 }
 
-/// Rounding up, by cutting bits: NaN, infinities and wholes stay, a zero result keeps the sign.
+/// Rounding up, by cutting bits, where the code adds 2^52 and takes it away: NaN, infinities and wholes stay, a zero result keeps
+/// the sign.
 #[must_use]
 pub fn ceil(x: f64) -> f64 {
     let w = x.to_bits();

@@ -1,7 +1,7 @@
 -- Rounding to a whole number is exact, and a whole number stays; a whole number compared with a real, one more and a power of two less. Assumes nothing.
 use mathlib.Core.Path.{_≡_, refl, sym, ap, _∙_, subst}
 use Prim.Native.Nat.{ℕ, zero, suc, _+_, _-_, _*_, _/_, _%_, _^_, _≤_, _<_}
-use native.Mathlib.Nat.{le-refl, le-of-eq, le-antisymm, le-of-suc-le-suc, suc-mul, one-mul, mul-le-mul-left, mul-le-mul-right, le-of-mul-le-mul-right, div-lt-iff-lt-mul, le-div-iff-mul-le, lt-div-mul-add, mul-div-cancel, mul-one, mul-right-comm, mul-pos, add-mul, le-of-lt, le-trans, lt-of-le-of-lt, mul-lt-mul-of-pos-right, lt-of-mul-lt-mul-right}
+use native.Mathlib.Nat.{le-refl, le-of-eq, mul-comm, div-le-of-le-mul, le-antisymm, le-of-suc-le-suc, suc-mul, one-mul, mul-le-mul-left, mul-le-mul-right, le-of-mul-le-mul-right, div-lt-iff-lt-mul, le-div-iff-mul-le, lt-div-mul-add, mul-div-cancel, mul-one, mul-right-comm, mul-pos, add-mul, le-of-lt, le-trans, lt-of-le-of-lt, mul-lt-mul-of-pos-right, lt-of-mul-lt-mul-right}
 use native.Mathlib.Omega.{arith}
 use mathlib.Core.Bool.{Bool, true, false, _&&_, true≢false}
 use borrow.Author.Tests.{le-ltb}
@@ -31,14 +31,14 @@ below-first a c k C h = le-div-iff-mul-le C .1 h
 pub above-next : (a c : ℕ) → 0 < c → wholeAbove a c ≤ a / c + 1
 above-next a c C = above-first a c (a / c + 1) C (rw add-mul (omega (arith, lt-div-mul-add {a = a} C)))
 
-below-within : (a c k : ℕ) → 0 < c → a ≤ k * c → a / c ≤ k
-below-within a c k C h = le-of-suc-le-suc (div-lt-iff-lt-mul C .1 (rw suc-mul (omega arith)))
+below-within : (a c k : ℕ) → a ≤ k * c → a / c ≤ k
+below-within a c k h = div-le-of-le-mul c (le-trans h (le-of-eq (mul-comm k c)))
 
 -- whichever a / c is rounded to: it is at most k where a / c is, and it is k where a / c is k
 pub size-within : (w : Way) (s : Bool) (a c k : ℕ) → 0 < c → a ≤ k * c → wholeSize w s a c ≤ k
 size-within upward false a c k C h = above-first a c k C h
-size-within upward true a c k C h = below-within a c k C h
-size-within downward false a c k C h = below-within a c k C h
+size-within upward true a c k C h = below-within a c k h
+size-within downward false a c k C h = below-within a c k h
 size-within downward true a c k C h = above-first a c k C h
 
 above-exact : (k c : ℕ) → 0 < c → wholeAbove (k * c) c ≡ k
@@ -86,18 +86,22 @@ below-scale : (s : Bool) (a b k : ℕ) → 0 < k → below s (a * k) s (b * k) �
 below-scale false a b k K = ltb-scale a b k K
 below-scale true a b k K = ltb-scale b a k K
 
+-- n as p / d, over another denominator c too
+over : (p n c d : ℕ) → p * 1 ≡ n * d → p * c ≡ n * c * d
+over p n c d v = ap (λ (z : ℕ). z * c) (sym (mul-one p) ∙ v) ∙ mul-right-comm n d c
+
 pub lt-from-whole : (r : Float) (s : Bool) (m : ℕ) (e : ℤ) (n : ℕ) → HasValue r s n 1 → lt r (fin s m e) ≡ below s (n * down e) s (m * up e)
 unfolding lt
 lt-from-whole (fin t p d) s m e n v =
     ap (λ (z : Bool). below z (p * up d * down e) s (m * up e * down d)) (v .0)
-    ∙ ap (λ (z : ℕ). below s z s (m * up e * down d)) (ap (λ (z : ℕ). z * down e) (sym (mul-one (p * up d)) ∙ v .1) ∙ mul-right-comm n (down d) (down e))
+    ∙ ap (λ (z : ℕ). below s z s (m * up e * down d)) (over (p * up d) n (down e) (down d) (v .1))
     ∙ below-scale s (n * down e) (m * up e) (down d) (down-pos d)
 
 pub lt-to-whole : (r : Float) (s : Bool) (m : ℕ) (e : ℤ) (n : ℕ) → HasValue r s n 1 → lt (fin s m e) r ≡ below s (m * up e) s (n * down e)
 unfolding lt
 lt-to-whole (fin t p d) s m e n v =
     ap (λ (z : Bool). below s (m * up e * down d) z (p * up d * down e)) (v .0)
-    ∙ ap (λ (z : ℕ). below s (m * up e * down d) s z) (ap (λ (z : ℕ). z * down e) (sym (mul-one (p * up d)) ∙ v .1) ∙ mul-right-comm n (down d) (down e))
+    ∙ ap (λ (z : ℕ). below s (m * up e * down d) s z) (over (p * up d) n (down e) (down d) (v .1))
     ∙ below-scale s (m * up e) (n * down e) (down d) (down-pos d)
 
 -- ---- one more than a whole number, and a power of two less

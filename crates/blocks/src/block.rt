@@ -7,7 +7,7 @@ use dynamics::{Answer, Inputs};
 use reals::{word_of, word_of_flag};
 
 // One of eight, each with its own numbers.
-#[derive(Drop)]
+#[derive(Clone, Copy)]
 pub enum Block {
     Pid(ControllerConfig),
     PidWithReset(ControllerConfig),
@@ -36,7 +36,7 @@ pub enum Block {
 }
 
 // A time and eight input words: f64 bits for a real, true unless 0 for a boolean.
-#[derive(Drop)]
+#[derive(Clone, Copy)]
 pub struct Tick {
     pub time: f64,
     pub words: [u64; 8],
@@ -54,7 +54,7 @@ pub(crate) fn inputs_of(tick: Tick) -> Inputs
 }
 
 // A block's outputs: the real or boolean one, then the second or 0.
-#[derive(Drop)]
+#[derive(Clone, Copy)]
 pub struct OutputWords {
     pub first: u64,
     pub second: u64,

@@ -3,7 +3,7 @@ ghost use Rattle.std.specs.Prelude.{◌≡◌};
 ghost use Rattle.blocks.specs.Decoded.{of_controller, of_average, of_accumulating, of_delay, of_hold, of_pulse};
 
 // The state record of a block: both controllers have one, and so have both holds.
-#[derive(Drop)]
+#[derive(Clone, Copy)]
 pub enum State {
     Controller(controller::State),
     MovingAverage(moving_average::State),
@@ -14,7 +14,7 @@ pub enum State {
 }
 
 // Its state, or why it has none.
-#[derive(Drop)]
+#[derive(Clone, Copy)]
 pub enum Decoded {
     State(State),
     Refused(u64),

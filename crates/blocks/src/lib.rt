@@ -1,4 +1,6 @@
 // One choice over the eight blocks, and their calls. Each call is told the block first; a block reads its inputs from the tick's first words.
+#![tactic(auto)]
+
 mod block;
 mod decoded;
 mod named;

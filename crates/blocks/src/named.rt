@@ -10,7 +10,7 @@ use dynamics::{flag_at, real_at, word_at};
 pub const CONTROLLER_SETTINGS: usize = 13;
 
 // The block that words name, if they name one.
-#[derive(Drop)]
+#[derive(Clone, Copy)]
 pub enum Named {
     Block(Block),
     Nothing,

@@ -12,7 +12,7 @@ pub const CDL_EPS: f64 = 1e-15;
 const MIN_PARAM: f64 = 100.0 * CDL_EPS;
 
 // Which terms a controller has: the proportional one always.
-#[derive(Drop)]
+#[derive(Clone, Copy)]
 pub enum ControllerType {
     P,
     Pi,
@@ -22,7 +22,7 @@ pub enum ControllerType {
 
 // A controller's settings: gain k, integral and derivative time ti and td, range r of the error, limits y_max and y_min of the output,
 // anti-windup factor ni, filter factor nd, the integrator and the derivative term at the start, the output that a reset aims at, and the direction.
-#[derive(Drop)]
+#[derive(Clone, Copy)]
 pub struct ControllerConfig {
     pub controller_type: ControllerType,
     pub k: f64,

@@ -1,4 +1,6 @@
 // The limited controller's recurrence, P, PI, PD and PID: what `Pid` and `PidWithReset` share. It knows states, and no words.
+#![tactic(auto)]
+
 mod config;
 mod derivative;
 mod integral;

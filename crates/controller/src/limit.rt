@@ -5,7 +5,7 @@ ghost use Rattle.controller.specs.Limit.{clamp, limit};
 use crate::config::ControllerConfig;
 
 // What a limiter makes of a sum that is no number.
-#[derive(Drop)]
+#[derive(Clone, Copy)]
 pub enum Rule {
     // It passes.
     PassesNan,

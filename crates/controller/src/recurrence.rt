@@ -9,7 +9,7 @@ use crate::limit::limit;
 use dynamics::{Previous, tick_dt};
 
 // What a controller remembers between two ticks. A part that its type lacks is 0.0, unset or false.
-#[derive(Drop)]
+#[derive(Clone, Copy)]
 pub struct State {
     pub integrator: f64,
     pub previous: Previous,
@@ -18,7 +18,7 @@ pub struct State {
 }
 
 // What it hears of a tick: setpoint, measurement and trigger.
-#[derive(Drop)]
+#[derive(Clone, Copy)]
 pub struct Heard {
     pub u_s: f64,
     pub u_m: f64,
@@ -26,7 +26,7 @@ pub struct Heard {
 }
 
 // A tick's error, proportional and derivative term, the sum with the integrator, and the output.
-#[derive(Drop)]
+#[derive(Clone, Copy)]
 pub struct Terms {
     pub e: f64,
     pub y_p: f64,

@@ -3,7 +3,7 @@ ghost use Rattle.std.specs.Prelude.{◌≡◌};
 ghost use Rattle.dynamics.specs.Answer.{silent, answered, emitted, updated, real_output, boolean_output, both_outputs, length_of};
 
 // What a tick brings besides its time; a block reads as many words as it has inputs.
-#[derive(Drop)]
+#[derive(Clone, Copy)]
 pub struct Inputs {
     pub first: u64,
     pub second: u64,
@@ -11,7 +11,7 @@ pub struct Inputs {
 }
 
 // What a call answers. A refusal has its number and zeros.
-#[derive(Drop)]
+#[derive(Clone, Copy)]
 pub struct Answer {
     pub refusal: u64,
     pub real: f64,
@@ -20,7 +20,7 @@ pub struct Answer {
 }
 
 // A state length; with a refusal its number and 0.
-#[derive(Drop)]
+#[derive(Clone, Copy)]
 pub struct Length {
     pub refusal: u64,
     pub length: usize,

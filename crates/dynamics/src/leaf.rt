@@ -3,7 +3,7 @@ ghost use Rattle.std.specs.Prelude.{◌≡◌};
 ghost use Rattle.dynamics.specs.Leaves.{accumulated, filtered, positive_duration, raised_to, rising};
 
 // What a tick of a delay or a hold gives: its output, and the timer to store.
-#[derive(Drop)]
+#[derive(Clone, Copy)]
 pub struct Timed {
     pub y: bool,
     pub timer: f64,

@@ -1,4 +1,6 @@
 // What every block shares: the previous time, the small steps, what a call brings and answers, a region's words.
+#![tactic(auto)]
+
 pub mod call;
 pub mod leaf;
 pub mod previous;

@@ -8,7 +8,7 @@ use reals::{is_finite, real_of, word_of};
 pub const PREV_T_UNSET: u64 = 0xffff_ffff_ffff_ffff;
 
 // The time of the previous tick, if there was one.
-#[derive(Drop)]
+#[derive(Clone, Copy)]
 pub enum Previous {
     Unset,
     At(f64),

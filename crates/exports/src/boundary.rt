@@ -12,7 +12,7 @@ pub const NO_BLOCK: u64 = 13;
 
 // The refusal number, the real's bits, and the two booleans as 0 or 1.
 #[repr(C)]
-#[derive(Drop)]
+#[derive(Clone, Copy)]
 pub struct AnswerWords {
     pub refusal: u64,
     pub real: u64,
@@ -22,7 +22,7 @@ pub struct AnswerWords {
 
 // The refusal number and the state length.
 #[repr(C)]
-#[derive(Drop)]
+#[derive(Clone, Copy)]
 pub struct LengthWords {
     pub refusal: u64,
     pub length: u64,

@@ -1,4 +1,6 @@
 // The library for C and Rust: the block by its number, settings, times and inputs as words, so that a NaN has one pattern.
+#![tactic(auto)]
+
 pub mod boundary;
 pub mod calls;
 pub mod leaves;

@@ -17,7 +17,7 @@ const NO_COLUMN: u64 = 8;
 
 // The refusal number, the row at fault, and whether any row warned, as 0 or 1.
 #[repr(C)]
-#[derive(Drop)]
+#[derive(Clone, Copy)]
 pub struct SheetWords {
     pub refusal: u64,
     pub row: u64,
@@ -25,7 +25,7 @@ pub struct SheetWords {
 }
 
 // Whether every row names a block; and if so the rows, of which a table shows the first.
-#[derive(Drop)]
+#[derive(Clone, Copy)]
 pub struct NamedTable {
     pub named: bool,
     pub rows: [Row; TABLE_ROWS],

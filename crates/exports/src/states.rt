@@ -8,7 +8,7 @@ use reals::{word_of, word_of_flag};
 
 // The refusal number, and the state's values in the order of its record, zeros after them. With a refusal all are 0.
 #[repr(C)]
-#[derive(Drop)]
+#[derive(Clone, Copy)]
 pub struct StateWords {
     pub refusal: u64,
     pub first: u64,

@@ -1,4 +1,6 @@
 // What the two holds share: their state, its three words in a region, how a region is started and taken apart, and how an output lasts.
+#![tactic(auto)]
+
 mod step;
 
 ghost use Rattle.std.specs.Prelude.{◌≡◌};
@@ -24,7 +26,7 @@ const PREV_T_WORD: usize = 2;
 pub const STATE_LEN: usize = 3;
 
 // The output and the stored timer, and the time of the previous tick.
-#[derive(Drop)]
+#[derive(Clone, Copy)]
 pub struct State {
     pub held: bool,
     pub timer: f64,
@@ -32,7 +34,7 @@ pub struct State {
 }
 
 // A region taken apart: its state, or why it has none.
-#[derive(Drop)]
+#[derive(Clone, Copy)]
 pub enum Decoded {
     State(State),
     Refused(u64),

@@ -9,7 +9,7 @@ use blocks::{Block, Tick};
 use reals::real_of;
 
 // A tick, or that the line is malformed; its tick is of zeros then.
-#[derive(Drop)]
+#[derive(Clone, Copy)]
 pub struct Later {
     pub ok: bool,
     pub tick: Tick,

@@ -1,4 +1,6 @@
 // The lines that soak reads: what the first line and a later line say.
+#![tactic(auto)]
+
 mod first;
 mod later;
 mod values;

@@ -5,7 +5,7 @@ ghost use Rattle.lines.specs.Values.{item_of, items_from, malformed, words_said,
 use text::{Item, end_of, read_flag, read_type, read_word};
 
 // Whether the items are as asked, and their words, those that there are not being 0.
-#[derive(Drop)]
+#[derive(Clone, Copy)]
 pub struct Values {
     pub ok: bool,
     pub words: [u64; 16],

@@ -1,4 +1,6 @@
 // `LogicalVariablePulse` of CDL.Logical: in each period the output is true for the share u of it, and each of its two values lasts for a least time.
+#![tactic(auto)]
+
 mod state;
 mod step;
 
@@ -18,7 +20,7 @@ use state::{state_of, write};
 use step::step;
 
 // How long a period lasts, the change of the input that begins a cycle anew, and how long each value of the output lasts at least.
-#[derive(Drop)]
+#[derive(Clone, Copy)]
 pub struct LogicalVariablePulse {
     pub period: f64,
     pub delta_u: f64,

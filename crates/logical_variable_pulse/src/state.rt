@@ -21,7 +21,7 @@ const PREV_T_WORD: usize = 4;
 pub const STATE_LEN: usize = 5;
 
 // The input that was sampled last, when the cycle began, the held output and how long it has lasted, and the time of the previous tick.
-#[derive(Drop)]
+#[derive(Clone, Copy)]
 pub struct State {
     pub sampled_u: f64,
     pub t0: f64,
@@ -31,7 +31,7 @@ pub struct State {
 }
 
 // A region taken apart: its state, or why it has none.
-#[derive(Drop)]
+#[derive(Clone, Copy)]
 pub enum Decoded {
     State(State),
     Refused(u64),

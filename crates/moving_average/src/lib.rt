@@ -1,4 +1,6 @@
 // `MovingAverage` of CDL.Reals: the mean of its input over the last delta seconds, from a ring of points in a lent region.
+#![tactic(auto)]
+
 mod average;
 mod order;
 mod ring;
@@ -24,7 +26,7 @@ use state::{decodes, ring_of, state_of};
 use window::{RingGeometry, geometry};
 
 // How many seconds the window spans.
-#[derive(Drop)]
+#[derive(Clone, Copy)]
 pub struct MovingAverage {
     pub delta: f64,
 }

@@ -6,7 +6,7 @@ use reals::real_of;
 use window::Point;
 
 // Where the ring stands in its region: the oldest point's slot, and how many points there are.
-#[derive(Drop)]
+#[derive(Clone, Copy)]
 pub struct Ring {
     pub capacity: usize,
     pub head: usize,

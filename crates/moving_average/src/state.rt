@@ -7,7 +7,7 @@ use dynamics::{Previous, flag_at, previous_at, previous_sound, real_at, word_at}
 
 // The integral of the input, when the first tick came and when the previous one, where the ring begins and how many
 // points it has, and whether ticks were ever too close to be kept apart. The ring's points stay in the region.
-#[derive(Drop)]
+#[derive(Clone, Copy)]
 pub struct State {
     pub mu: f64,
     pub t_start: f64,
@@ -18,7 +18,7 @@ pub struct State {
 }
 
 // A region taken apart: its state, or why it has none.
-#[derive(Drop)]
+#[derive(Clone, Copy)]
 pub enum Decoded {
     State(State),
     Refused(u64),

@@ -8,7 +8,7 @@ use crate::walk::expired;
 use reals::word_of;
 
 // Where a tick's point goes: its position, the count then, and whether it takes the place of another time's point.
-#[derive(Drop)]
+#[derive(Clone, Copy)]
 pub struct Place {
     pub position: usize,
     pub count: usize,
@@ -16,7 +16,7 @@ pub struct Place {
 }
 
 // The words that an update writes.
-#[derive(Drop)]
+#[derive(Clone, Copy)]
 pub struct Step {
     pub mu: u64,
     pub t_start: u64,

@@ -1,4 +1,6 @@
 // The library for a controller that needs no more: start, tick and run, as `exports` has them, and nothing beside them.
+#![tactic(auto)]
+
 ghost use Rattle.reals.specs.Words.{real_of};
 ghost use Rattle.dynamics.specs.Region.{Gives};
 ghost use Rattle.blocks.specs.Named.{named_by};

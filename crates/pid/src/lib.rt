@@ -1,4 +1,6 @@
 // `Pid` and `PidWithReset` of CDL.Reals over a lent region: limited P, PI, PD and PID controllers. `with_reset` says which of the two.
+#![tactic(auto)]
+
 mod state;
 
 ghost use Rattle.std.specs.Prelude.{◌≡◌, eqb};

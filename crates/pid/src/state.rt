@@ -8,7 +8,7 @@ use dynamics::{Previous, flag_at, previous_at, real_at, store, word_of_previous}
 use reals::{word_of, word_of_flag};
 
 // A region taken apart: its state, or why it has none.
-#[derive(Drop)]
+#[derive(Clone, Copy)]
 pub enum Decoded {
     State(State),
     Refused(u64),

@@ -210,6 +210,8 @@ module _ (s : Float) (p : Near s) where
 neg_value : (r : Float) (n : ℕ) → HasValue r false n 1 → HasValue (neg r) true n 1
 unfolding neg
 neg_value (fin t p d) n v = (ap not v.0, v.1)
+neg_value nan n v = elim v [ ]
+neg_value (inf _) n v = elim v [ ]
 
 neg_count : (n : ℕ) → n ≤ 2 ^ 53 → neg (count n) ≡ round binary64 true n 1
 neg_count n h =

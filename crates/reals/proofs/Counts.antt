@@ -5,7 +5,7 @@ use Prim.Native.Nat.{ℕ, ◌*◌, ◌^◌, ◌≤◌}
 use native.Mathlib.Nat.{mul-one}
 use native.Mathlib.Omega.{arith}
 use lib.Dec.{ltb, le→leb}
-use lib.Ieee.{Float, fin, binary64, up, down, lt, of_int, in_float, to_unsigned}
+use lib.Ieee.{nan, inf, Float, fin, binary64, up, down, lt, of_int, in_float, to_unsigned}
 use lib.Ieee.Fits.{down_pos}
 use lib.Ieee.Exact.{HasValue}
 use lib.Ieee.Back.{round_whole, unsigned_back}
@@ -19,6 +19,8 @@ lt_wholes x (fin false m e) n k v w =
     lt_from_whole x false m e n v
     ∙ ap (λ (z : ℕ). ltb (n * down e) z) (sym (mul-one (m * up e)) ∙ w.1)
     ∙ ltb_scale n k (down e) (down_pos e)
+lt_wholes x nan n k v w = elim w [ ]
+lt_wholes x (inf _) n k v w = elim w [ ]
 
 pub lt_counts : (n k : ℕ) → n ≤ 2 ^ 53 → k ≤ 2 ^ 53 → lt (nearest n 1) (nearest k 1) ≡ ltb n k
 lt_counts n k h l = lt_wholes (nearest n 1) (nearest k 1) n k (round_whole binary64 false n h) (round_whole binary64 false k l)

@@ -61,12 +61,18 @@ placed x f h =
 -- ---- a real that has a value is what the value rounds to
 pub value_finite : (x : Float) (s : Bool) (a c : ℕ) → HasValue x s a c → T (finite x)
 value_finite (fin t m e) s a c v = tt
+value_finite nan s a c v = elim v [ ]
+value_finite (inf _) s a c v = elim v [ ]
 
 pub value_sign : (x : Float) (s t : Bool) (a c b d : ℕ) → HasValue x s a c → HasValue x t b d → s ≡ t
 value_sign (fin u m e) s t a c b d v w = sym v.0 ∙ w.0
+value_sign nan s t a c b d v w = elim v [ ]
+value_sign (inf _) s t a c b d v w = elim v [ ]
 
 pub value_cross : (x : Float) (s t : Bool) (a c b d : ℕ) → HasValue x s a c → HasValue x t b d → a * d ≡ b * c
 value_cross (fin u m e) s t a c b d v w = same_fraction a c b d (m * up e) (down e) (down_pos e) (sym v.1) (sym w.1)
+value_cross nan s t a c b d v w = elim v [ ]
+value_cross (inf _) s t a c b d v w = elim v [ ]
 
 pub fine : (q j : ℕ) → q < 2 ^ 53 → j < 2046 → q * 2 ^ j < 2 ^ 2098
 fine q j h k = lt_of_lt_of_le (shl_lt 53 j h) (pow_mono {i = 53 + j} {j = 2098} (omega arith))

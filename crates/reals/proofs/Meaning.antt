@@ -100,9 +100,13 @@ first_signed w s a c t k C h =
 value_numer : (r : Float) (s : Bool) (n : ℕ) → HasValue r s n 1 → numer r ≡ signed s n *ℤ pos (den r)
 value_numer (fin t p d) s n v =
     ap (λ (z : Bool). signed z (p * up d)) v.0 ∙ ap (λ (z : ℕ). signed s z) (sym (mul-one (p * up d)) ∙ v.1) ∙ sym (signed_mul s n (down d))
+value_numer nan s n v = elim v [ ]
+value_numer (inf _) s n v = elim v [ ]
 
 value_sign_of : (r : Float) (s : Bool) (n : ℕ) → HasValue r s n 1 → sign_of r ≡ s
 value_sign_of (fin t p d) s n v = v.0
+value_sign_of nan s n v = elim v [ ]
+value_sign_of (inf _) s n v = elim v [ ]
 
 -- of every finite f64, `whole` gives the first whole number on the way
 pub whole_means : (w : Way) (x : Float) → T (fits binary64 x) → T (finite x) → IsWhole w x (whole w x)
@@ -121,6 +125,8 @@ whole_means w (fin s m e) f h =
       ];
       keeps_sign = value_sign_of r s n v;
     }
+whole_means w nan f h = elim h [ ]
+whole_means w (inf _) f h = elim h [ ]
 
 -- and the others stay
 pub whole_nan : (w : Way) → whole w nan ≡ nan
@@ -161,6 +167,10 @@ cross s a c b d z p q =
 -- finite reals of one sign and one size are one
 same_size : (r q : Float) → T (fits binary64 r) → T (fits binary64 q) → T (finite r) → T (finite q) → sign_of r ≡ sign_of q → num r * den q ≡ num q * den r → r ≡ q
 same_size (fin s m e) (fin t n d) f g h k i j = unique binary64 (fin s m e) (fin t n d) s (m * up e) (down e) (down_pos e) f g (refl, refl) (sym i, sym j)
+same_size nan q f g h k i j = elim h [ ]
+same_size (inf _) q f g h k i j = elim h [ ]
+same_size (fin s m e) nan f g h k i j = elim k [ ]
+same_size (fin s m e) (inf _) f g h k i j = elim k [ ]
 
 between : (w : Way) (a b : ℤ) → Before w a b → Before w b a → a ≡ b
 between upward a b h k = antisymmetric a b h k
@@ -182,6 +192,8 @@ only_magnitude x r q f g p u =
 pub magnitude_means : (x : Float) → T (finite x) → IsMagnitude x (magnitude x)
 unfolding magnitude
 magnitude_means (fin s m e) h = record { is_finite = tt; same_size = refl; sign_clear = refl }
+magnitude_means nan h = elim h [ ]
+magnitude_means (inf _) h = elim h [ ]
 
 pub magnitude_nan : magnitude nan ≡ nan
 unfolding magnitude

@@ -271,6 +271,7 @@ le_not_lt x y l = lt_not_le y x (le_right x y l) (le_left x y l) ∙ go (le x y)
   where
     go : (b : Bool) → T b → not b ≡ false
     go true t = refl
+    go false t = elim t [ ]
 
 pub lt_not_ge : (x y : Float) → lt x y ≡ true → le y x ≡ false
 lt_not_ge x y e = go (le y x) (le_not_lt y x)
@@ -282,6 +283,7 @@ lt_not_ge x y e = go (le y x) (le_not_lt y x)
 pub finite_number : (x : Float) → T (finite x) → T (number x)
 finite_number (inf s) h = tt
 finite_number (fin s m e) h = tt
+finite_number nan h = elim h [ ]
 
 -- what lies below another is not above it
 pub against : (x y : Float) → T (lt x y) → T (le y x) → ⊥

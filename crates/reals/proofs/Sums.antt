@@ -47,6 +47,10 @@ pub gap_nonneg : (t p : Float) → T (finite t) → T (finite p) → T (le p t) 
 unfolding sub add neg
 gap_nonneg (fin s m e) (fin true n d) h k l = sum_nonneg s (m * up e * down d) false (n * up d * down e) (down e * down d) (mul-pos (down_pos e) (down_pos d)) (le_fin true n d s m e l)
 gap_nonneg (fin s m e) (fin false n d) h k l = sum_nonneg s (m * up e * down d) true (n * up d * down e) (down e * down d) (mul-pos (down_pos e) (down_pos d)) (le_fin false n d s m e l)
+gap_nonneg nan p h k l = elim h [ ]
+gap_nonneg (inf _) p h k l = elim h [ ]
+gap_nonneg (fin s m e) nan h k l = elim k [ ]
+gap_nonneg (fin s m e) (inf _) h k l = elim k [ ]
 
 -- ---- a real that is not negative: its sign is clear, or it is -0
 abbrev Clear : Bool → ℕ → Type 0

@@ -5,7 +5,7 @@ use native.Mathlib.Nat.{mul_comm, mul-sub, mul_right_comm, eq_of_mul-eq-mul_righ
 use mathlib.Core.Bool.{Bool, true, false, ◌&&◌, cond, true≢false}
 use lib.Dec.{T}
 use lib.IntN.{ℤ}
-use lib.Ieee.{Float, fin, Format, prec, low, up, down, size, hid, top, fits, of_bits, to_bits}
+use lib.Ieee.{nan, inf, Float, fin, Format, prec, low, up, down, size, hid, top, fits, of_bits, to_bits}
 use lib.Ieee.Bits.{of_bits-to_bits}
 use lib.Ieee.Fits.{down_pos}
 use lib.Ieee.Exact.{HasValue}
@@ -39,6 +39,8 @@ same_fraction x p y q a c C h k =
 -- the same value over another denominator
 pub rescale : (x : Float) (s : Bool) (a c b d : ℕ) → 0 < c → a * d ≡ b * c → HasValue x s a c → HasValue x s b d
 rescale (fin t m e) s a c b d C h v = (v.0, same_fraction (m * up e) (down e) b d a c C v.1 (sym h))
+rescale nan s a c b d C h v = elim v [ ]
+rescale (inf _) s a c b d C h v = elim v [ ]
 
 -- a real is known by its sign and its value: its bits are
 bits : Format → Bool → ℕ → ℕ
@@ -57,6 +59,10 @@ unique f (fin t m e) (fin u n d) s a c C p q v w =
     sym (of_bits-to_bits f (fin t m e) p)
     ∙ ap (λ (z : ℕ). of_bits f z) (same_bits f t u m n e d (v.0 ∙ sym w.0) (same_fraction (m * up e) (down e) (n * up d) (down d) a c C v.1 w.1))
     ∙ of_bits-to_bits f (fin u n d) q
+unique f nan y s a c C p q v w = elim v [ ]
+unique f (inf _) y s a c C p q v w = elim v [ ]
+unique f (fin t m e) nan s a c C p q v w = elim w [ ]
+unique f (fin t m e) (inf _) s a c C p q v w = elim w [ ]
 
 -- whether a real fits does not turn on its sign
 pub fits_sign : (f : Format) (s t : Bool) (m : ℕ) (e : ℤ) → T (fits f (fin s m e)) → T (fits f (fin t m e))

@@ -8,7 +8,7 @@ use borrow.Author.Tests.{le-ltb}
 use lib.Dec.{T, leb, ltb, eqb, ltb→lt, lt→ltb, lit<}
 use lib.Pow.{pow_pos}
 use lib.IntN.{ℤ, pos, negsuc}
-use lib.Ieee.{Float, fin, binary64, up, down, round, sum, add, sub, neg, lt, below, fits}
+use lib.Ieee.{nan, inf, Float, fin, binary64, up, down, round, sum, add, sub, neg, lt, below, fits}
 use lib.Ieee.Back.{round_whole}
 use lib.Ieee.Fits.{down_pos, and_l, and_r}
 use lib.Ieee.Exact.{HasValue}
@@ -57,6 +57,8 @@ size_at w s m e k v = ap (λ (z : ℕ). whole_size w s z (down e)) (sym (mul-one
 pub whole_already : (w : Way) (x : Float) (s : Bool) (k : ℕ) → T (fits binary64 x) → HasValue x s k 1 → x ≡ whole w x
 unfolding whole
 whole_already w (fin t m e) s k f v = sym (round_own (fin t m e) t k 1 (lit< tt) f (refl, v.1)) ∙ ap (λ (z : ℕ). round binary64 t z 1) (sym (size_at w t m e k v.1))
+whole_already w nan s k f v = elim v [ ]
+whole_already w (inf _) s k f v = elim v [ ]
 
 -- ---- rounding to a whole number is exact: the result has the whole number for its value
 pub digits_fit : (s : Bool) (m : ℕ) (e : ℤ) → T (fits binary64 (fin s m e)) → m < 2 ^ 53
@@ -96,6 +98,8 @@ lt_from_whole (fin t p d) s m e n v =
     ap (λ (z : Bool). below z (p * up d * down e) s (m * up e * down d)) v.0
     ∙ ap (λ (z : ℕ). below s z s (m * up e * down d)) (over (p * up d) n (down e) (down d) v.1)
     ∙ below_scale s (n * down e) (m * up e) (down d) (down_pos d)
+lt_from_whole nan s m e n v = elim v [ ]
+lt_from_whole (inf _) s m e n v = elim v [ ]
 
 pub lt_to_whole : (r : Float) (s : Bool) (m : ℕ) (e : ℤ) (n : ℕ) → HasValue r s n 1 → lt (fin s m e) r ≡ below s (m * up e) s (n * down e)
 unfolding lt
@@ -103,6 +107,8 @@ lt_to_whole (fin t p d) s m e n v =
     ap (λ (z : Bool). below s (m * up e * down d) z (p * up d * down e)) v.0
     ∙ ap (λ (z : ℕ). below s (m * up e * down d) s z) (over (p * up d) n (down e) (down d) v.1)
     ∙ below_scale s (m * up e) (n * down e) (down d) (down_pos d)
+lt_to_whole nan s m e n v = elim v [ ]
+lt_to_whole (inf _) s m e n v = elim v [ ]
 
 -- ---- one more than a whole number, and a power of two less
 one_over : (p n d : ℕ) → p ≡ n * d → (p + 1 * d) * 1 ≡ (n + 1) * (d * 1)
@@ -113,6 +119,8 @@ unfolding add sum
 one_more (fin true p d) n v = absurd (true≢false v.0)
 one_more (fin false p d) n v =
     round_same binary64 false (p * up d * 1 + 1 * down d) (down d * 1) (n + 1) 1 (mul-pos (down_pos d) (lit< tt)) (lit< tt) (one_over (p * up d * 1) n (down d) v.1)
+one_more nan n v = elim v [ ]
+one_more (inf _) n v = elim v [ ]
 
 less_over : (p n k d : ℕ) → p ≡ n * d → (p - 1 * k * d) * 1 ≡ (n - k) * (d * 1)
 less_over p n k d h =
@@ -129,3 +137,5 @@ power_less (fin false p d) n j v h =
     let l : 1 * 2 ^ j * down d ≤ p * up d * 1 = le_trans (mul-le-mul_right (down d) (le_trans (le_of_eq (one-mul (2 ^ j))) h)) (le_of_eq (sym v.1)) in
     rw (le-ltb (p * up d * 1) (1 * 2 ^ j * down d) l)
     (round_same binary64 false (p * up d * 1 - 1 * 2 ^ j * down d) (down d * 1) (n - 2 ^ j) 1 (mul-pos (down_pos d) (lit< tt)) (lit< tt) (less_over (p * up d * 1) n (2 ^ j) (down d) v.1))
+power_less nan n j v h = elim v [ ]
+power_less (inf _) n j v h = elim v [ ]

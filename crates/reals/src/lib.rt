@@ -1,4 +1,6 @@
 // Reals on their own: what an f64 and its stored word mean, and how one is rounded to a whole number.
+#![tactic(auto)]
+
 pub mod rounding;
 pub mod word;
 

@@ -9,7 +9,7 @@ use blocks::{Block, Tick};
 use dynamics::store;
 
 // What replaying a line shows: all as stored, which call is not, or that the line is no stored call.
-#[derive(Drop)]
+#[derive(Clone, Copy)]
 pub enum Verdict {
     Same,
     Emit,

@@ -6,7 +6,7 @@ ghost use Rattle.replay.specs.Form.{Sized};
 use blocks::CONTROLLER_SETTINGS;
 
 // The block's number, how many settings and inputs it has, and whether its region is given by pairs.
-#[derive(Drop)]
+#[derive(Clone, Copy)]
 pub struct Form {
     pub number: u64,
     pub settings: usize,

@@ -11,7 +11,7 @@ use crate::report::{print_tally, tell};
 use text::end_of;
 
 // How many calls were replayed, and how many of them differ.
-#[derive(Drop)]
+#[derive(Clone, Copy)]
 pub struct Tally {
     pub calls: u64,
     pub differ: u64,

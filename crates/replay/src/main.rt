@@ -1,4 +1,6 @@
 // replay: makes every stored call of the eight blocks through the proved library, and says how many give something else than is stored.
+#![tactic(auto)]
+
 mod answer;
 mod call;
 mod compare;

@@ -6,7 +6,7 @@ ghost use Rattle.text.specs.Bytes.{same_list};
 use dynamics::{clear, store};
 
 // Where what follows a region's words starts, or that they are no region's.
-#[derive(Drop)]
+#[derive(Clone, Copy)]
 pub enum Next {
     At(usize),
     Bad,

@@ -1,4 +1,6 @@
 // Many whole ticks of one block on one lent region: the words of each tick in, the words of each answer out.
+#![tactic(auto)]
+
 mod loops;
 mod words;
 

@@ -12,7 +12,7 @@ pub const WORDS_PER_TICK: usize = 4;
 pub const WORDS_PER_ANSWER: usize = 4;
 
 // What a tick asks: its time and its inputs.
-#[derive(Drop)]
+#[derive(Clone, Copy)]
 pub struct Asked {
     pub time: f64,
     pub inputs: Inputs,

@@ -14,7 +14,7 @@ const HELD: usize = 256;
 const ROOM: usize = 32;
 
 // Where a chunk has led: the session, how many bytes of a line are held, how many of the chunk were taken, and how many were written.
-#[derive(Drop)]
+#[derive(Clone, Copy)]
 pub struct Fed {
     pub session: Session,
     pub held: usize,

@@ -8,7 +8,7 @@ use blocks::{Block, Named, Tick};
 use lines::{first_line, later_line};
 
 // The session after a line, and the place after what was written for it.
-#[derive(Drop)]
+#[derive(Clone, Copy)]
 pub struct Step {
     pub session: Session,
     pub at: usize,

@@ -1,4 +1,6 @@
 // The bench sheet: a lent list of rows, each a block and the columns of its inputs, over one lent region.
+#![tactic(auto)]
+
 mod row;
 mod table;
 mod turn;

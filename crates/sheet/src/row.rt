@@ -2,7 +2,7 @@
 use blocks::Block;
 
 // A block, and the columns of its inputs: below 8 one names a word of the tick, from 8 on an answer word of a row further up.
-#[derive(Drop)]
+#[derive(Clone, Copy)]
 pub struct Row {
     pub block: Block,
     pub first: u64,
@@ -11,7 +11,7 @@ pub struct Row {
 }
 
 // The refusal number, the row at fault for 2, 6 and 7, and whether any row warned.
-#[derive(Drop)]
+#[derive(Clone, Copy)]
 pub struct SheetAnswer {
     pub refusal: u64,
     pub row: usize,

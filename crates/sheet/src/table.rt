@@ -12,7 +12,7 @@ use blocks::Tick;
 pub const TABLE_ROWS: usize = MOST_ROWS + 1;
 
 // The first `count` of the rows, or all of them where `count` is larger.
-#[derive(Drop)]
+#[derive(Clone, Copy)]
 pub struct Table {
     pub rows: [Row; TABLE_ROWS],
     pub count: usize,

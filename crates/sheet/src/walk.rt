@@ -9,7 +9,7 @@ use dynamics::store;
 use reals::is_finite;
 
 // What a walk does on each row. One that was refused goes by every row.
-#[derive(Drop)]
+#[derive(Clone, Copy)]
 pub enum Phase {
     Survey,
     Start,
@@ -19,7 +19,7 @@ pub enum Phase {
 }
 
 // The refusal number and the row at fault so far, where the next row's words begin, and whether any row warned.
-#[derive(Drop)]
+#[derive(Clone, Copy)]
 pub struct Walk {
     pub phase: Phase,
     pub refusal: u64,

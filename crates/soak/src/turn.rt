@@ -7,7 +7,7 @@ use session::{Session, feed};
 
 // The run after a turn: how many bytes came, how many were written for them, and whether reading and writing went well.
 // `wrote` is this file's own, so nobody else can make one up: a turn comes from `take_turn`.
-#[derive(Drop)]
+#[derive(Clone, Copy)]
 pub(crate) struct Turn {
     pub(crate) session: Session,
     pub(crate) held: usize,

@@ -1,4 +1,6 @@
 // Items of a line of text: read from a part of the line, and made for one.
+#![tactic(auto)]
+
 mod bytes;
 mod controller_type;
 mod decimal;

@@ -3,7 +3,7 @@ ghost use Rattle.std.specs.Prelude.{◌≡◌, ◌<◌};
 ghost use Rattle.text.specs.Word.{digit_value, word_item, glyph, word_text};
 
 // What an item says: a word, or nothing that can be read.
-#[derive(Drop)]
+#[derive(Clone, Copy)]
 pub enum Item {
     Word(u64),
     Bad,

@@ -1,4 +1,6 @@
 // `TimerAccumulating` of CDL.Logical: adds up the time that its input is true, until a rising reset clears it.
+#![tactic(auto)]
+
 mod state;
 mod step;
 
@@ -18,7 +20,7 @@ use state::{state_of, write};
 use step::step;
 
 // It passes when the total reaches t.
-#[derive(Drop)]
+#[derive(Clone, Copy)]
 pub struct TimerAccumulating {
     pub t: f64,
 }

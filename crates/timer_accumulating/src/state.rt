@@ -21,7 +21,7 @@ const PASSED_WORD: usize = 4;
 pub const STATE_LEN: usize = 5;
 
 // The total, and of the previous tick its time, its input and reset, and whether the timer had passed.
-#[derive(Drop)]
+#[derive(Clone, Copy)]
 pub struct State {
     pub total: f64,
     pub previous: Previous,
@@ -31,7 +31,7 @@ pub struct State {
 }
 
 // A region taken apart: its state, or why it has none.
-#[derive(Drop)]
+#[derive(Clone, Copy)]
 pub enum Decoded {
     State(State),
     Refused(u64),

@@ -1,4 +1,6 @@
 // `TrueDelay` of CDL.Logical: a true input passes when it has lasted for the delay, a false one at once.
+#![tactic(auto)]
+
 mod state;
 mod step;
 
@@ -18,7 +20,7 @@ use state::{state_of, write};
 use step::step;
 
 // How long a true input waits, and whether one on the first tick waits too.
-#[derive(Drop)]
+#[derive(Clone, Copy)]
 pub struct TrueDelay {
     pub delay_time: f64,
     pub delay_on_init: bool,

@@ -19,7 +19,7 @@ const HELD_WORD: usize = 3;
 pub const STATE_LEN: usize = 4;
 
 // The timer, and of the previous tick its time, its input and its output.
-#[derive(Drop)]
+#[derive(Clone, Copy)]
 pub struct State {
     pub timer: f64,
     pub previous: Previous,
@@ -28,7 +28,7 @@ pub struct State {
 }
 
 // A region taken apart: its state, or why it has none.
-#[derive(Drop)]
+#[derive(Clone, Copy)]
 pub enum Decoded {
     State(State),
     Refused(u64),

@@ -1,4 +1,6 @@
 // `TrueFalseHold` of CDL.Logical: the output follows the input, but each of its two values lasts for a least time.
+#![tactic(auto)]
+
 mod step;
 
 ghost use Rattle.std.specs.Prelude.{◌≡◌};
@@ -15,7 +17,7 @@ use reals::is_finite;
 use step::step;
 
 // A true output lasts for the one, a false output for the other.
-#[derive(Drop)]
+#[derive(Clone, Copy)]
 pub struct TrueFalseHold {
     pub true_hold_duration: f64,
     pub false_hold_duration: f64,

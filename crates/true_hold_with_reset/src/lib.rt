@@ -1,4 +1,6 @@
 // `TrueHoldWithReset` of CDL.Logical: the output follows the input, but a true one lasts for a least time, unless cleared.
+#![tactic(auto)]
+
 mod step;
 
 ghost use Rattle.std.specs.Prelude.{◌≡◌};
@@ -15,7 +17,7 @@ use reals::is_finite;
 use step::step;
 
 // A true output lasts for the duration.
-#[derive(Drop)]
+#[derive(Clone, Copy)]
 pub struct TrueHoldWithReset {
     pub duration: f64,
 }

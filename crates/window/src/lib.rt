@@ -1,4 +1,6 @@
 // A window of time: the ring that its length asks for, and the mean over it.
+#![tactic(auto)]
+
 pub mod mean;
 pub mod ring;
 

@@ -3,7 +3,7 @@ ghost use Rattle.std.specs.Prelude.{◌≡◌};
 ghost use Rattle.window.specs.Mean.{on_line, divisor};
 
 // The integral of the input up to a time.
-#[derive(Drop)]
+#[derive(Clone, Copy)]
 pub struct Point {
     pub time: f64,
     pub mu: f64,

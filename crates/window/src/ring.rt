@@ -10,7 +10,7 @@ const MIN_DELTA: f64 = 1e-5;
 
 // A ring resolved from delta: the window, how many points fit, how many words the region has, and how far apart ticks
 // are that are all kept.
-#[derive(Drop)]
+#[derive(Clone, Copy)]
 pub struct RingGeometry {
     pub delta: f64,
     pub capacity: usize,

@@ -170,7 +170,7 @@ pub fn sound(block: Block, region: &[u64]) -> bool
 // A region taken apart.
 pub fn decode(block: Block, region: &[u64]) -> Decoded
     ensures value { result ≡ opened block (decode_refusal (machine_of block) region.now) region.now }
-    ensures result_value { reads block result ≡ decode_answer (machine_of block) (state_of block) (zeros block) region.now }
+    ensures reading { reads block result ≡ decode_answer (machine_of block) (state_of block) (zeros block) region.now }
 {
     match block {
         Block::Pid(s) => controller_decoded(pid::decode(s, false, region)),

@@ -88,6 +88,7 @@ module _ (b : ControllerConfig) (y_u : Float) where
       where
         go : (above : Bool) → T above → chain above (lt y_u y_min) ≡ y_max
         go true t = refl
+        go false t = elim t [ ]
 
     pub limit_crossed : Crossed b y_u (limit b y_u)
     unfolding limit

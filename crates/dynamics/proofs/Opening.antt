@@ -100,10 +100,10 @@ module _ {S D : Type 0} (E : Enum S D) (M : Machine) (state_of : List ℕ → S)
     decode_says = opened_reads E (decode_refusal M w) (state_of w)
 
     abbrev pub Decodes : D → Type 0
-    Decodes d = (d ≡ Opened E (decode_refusal M w) (state_of w)) × (E.reads d ≡ decode_answer M state_of E.zeros w)
+    Decodes d = record { value : d ≡ Opened E (decode_refusal M w) (state_of w); reading : E.reads d ≡ decode_answer M state_of E.zeros w }
 
     pub decodes : {d : D} → d ≡ Opened E (decode_refusal M w) (state_of w) → Decodes d
-    decodes o = (o, ap E.reads o ∙ decode_says)
+    decodes o = record { value = o; reading = ap E.reads o ∙ decode_says }
 
   -- ---- opening, in the order of the table: tests 2 and 3, then the state is read, then the others
   module _ (w : List ℕ) {a : Bool} (settings : a ≡ M.accepts) {n : ℕ} (formed : n ≡ form_refusal a (sized M w)) where

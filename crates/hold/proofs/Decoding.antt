@@ -75,7 +75,7 @@ module _ (accepts : Bool) (advance : State → Float → Inputs → State) where
 
     pub decoded_alike : {d : Decoded} → Decodes decoded (bare a) state_of w d → Decodes decoded machine state_of w d
     unfolding decode_refusal decode_answer stepped_machine
-    decoded_alike (o, said) = (rw settings at o, rw settings at said)
+    decoded_alike d = record { value = rw settings at d.value; reading = rw settings at d.reading }
 
     pub admitted_alike : (time : Float) {d : Decoded} → d ≡ opened (tick_refusal (bare a) time w) w → d ≡ opened (tick_refusal machine time w) w
     unfolding tick_refusal stepped_machine

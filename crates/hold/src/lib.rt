@@ -100,7 +100,7 @@ pub fn start(accepted: bool, region: &mut [u64]) -> u64
 // A region taken apart.
 pub fn decode(accepted: bool, region: &[u64]) -> Decoded
     ensures value { result ≡ opened (decode_refusal (bare accepted) region.now) region.now }
-    ensures result_value { reads result ≡ decode_answer (bare accepted) state_of zeros region.now }
+    ensures reading { reads result ≡ decode_answer (bare accepted) state_of zeros region.now }
 {
     let n = form_refusal(accepted, region.len() == STATE_LEN);
     if n != 0 {

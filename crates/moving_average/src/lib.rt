@@ -56,7 +56,7 @@ pub fn start(settings: MovingAverage, region: &mut [u64]) -> u64
 // A region taken apart.
 pub fn decode(settings: MovingAverage, region: &[u64]) -> Decoded
     ensures value { result ≡ opened (decode_refusal (machine settings) region.now) region.now }
-    ensures result_value { reads result ≡ decode_answer (machine settings) state_of zeros region.now }
+    ensures reading { reads result ≡ decode_answer (machine settings) state_of zeros region.now }
 {
     taken_apart(settings, geometry(settings.delta), region)
 }

@@ -75,7 +75,7 @@ pub fn start(settings: ControllerConfig, with_reset: bool, region: &mut [u64]) -
 // A region taken apart.
 pub fn decode(settings: ControllerConfig, with_reset: bool, region: &[u64]) -> Decoded
     ensures value { result ≡ opened with_reset settings (decode_refusal (machine with_reset settings) region.now) region.now }
-    ensures result_value { reads result ≡ decode_answer (machine with_reset settings) (state_of settings.controller_type with_reset) zeros region.now }
+    ensures reading { reads result ≡ decode_answer (machine with_reset settings) (state_of settings.controller_type with_reset) zeros region.now }
 {
     let n = form(settings, with_reset, region.len());
     if n != 0 {

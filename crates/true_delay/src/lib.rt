@@ -65,7 +65,7 @@ pub fn start(settings: TrueDelay, region: &mut [u64]) -> u64
 // A region taken apart.
 pub fn decode(settings: TrueDelay, region: &[u64]) -> Decoded
     ensures value { result ≡ opened (decode_refusal (machine settings) region.now) region.now }
-    ensures result_value { reads result ≡ decode_answer (machine settings) state_of zeros region.now }
+    ensures reading { reads result ≡ decode_answer (machine settings) state_of zeros region.now }
 {
     let n = form_refusal(settings_accepted(settings), region.len() == STATE_LEN);
     if n != 0 {

@@ -75,6 +75,8 @@ below_above k a c C =
 below_ceiling : (x : Float) → T (positive x) → ltb 1024 (ceiling x) ≡ lt (nearest 1024 1) x
 below_ceiling (fin true m e) p = absurd p
 below_ceiling (fin false m e) p = below_above 1024 (m * up e) (down e) (down_pos e) ∙ sym (lt_from_whole (nearest 1024 1) false m e 1024 (round_whole binary64 false 1024 (lit≤ tt)))
+below_ceiling nan p = elim p [ ]
+below_ceiling (inf _) p = elim p [ ]
 
 -- ---- delta raised to 1e-5
 abbrev 1e-5 : Float
@@ -90,6 +92,8 @@ unfolding round
 finite_above : (x : Float) → T (finite x) → T (above x) → T (positive x)
 finite_above (fin true m e) h a = absurd a
 finite_above (fin false m e) h a = a
+finite_above nan h a = elim h [ ]
+finite_above (inf _) h a = elim h [ ]
 
 module _ (delta : Float) (f : T (fits binary64 delta)) (h : T (finite delta)) where
   raised_fits : T (fits binary64 (delta_eff delta))

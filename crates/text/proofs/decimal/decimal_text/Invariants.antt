@@ -1,0 +1,13 @@
+-- `decimal::decimal_text` meets its contract: the digits from `start` on are spelled, those of `rest` are still to be. Assumes nothing.
+use Prim.Native.Nat.{ℕ, suc, ◌-◌}
+use mathlib.Core.Path.{◌≡◌, subst}
+use borrow.Author.Rules.{rules}
+use native.Mathlib.Omega.{arith}
+use Rattle.text.proofs.Spelling.{Spelling, spelling_last, spelling_next, spelling_room, spelling_end}
+use Rattle.text.proofs.decimal.decimal_text.Given as goal
+
+abbrev pub invariant-loop-rest : goal.invariant-loop-rest
+invariant-loop-rest l = Spelling l.n l.digits l.start l.rest
+
+abbrev pub decreases-loop-rest : goal.decreases-loop-rest
+decreases-loop-rest l = l.rest

@@ -1,0 +1,16 @@
+-- `word::read_word` meets its contract: the digits that are left go on from the number so far as all of them do from 0. Assumes nothing.
+use Prim.Native.Nat.{ℕ, ◌+◌, ◌-◌, ◌*◌, ◌^◌, ◌≤◌, ◌<◌}
+use mathlib.Core.Path.{◌≡◌, sym, ap, ◌∙◌}
+use borrow.Author.Tests.{eq-eqb, ne_eqb}
+use borrow.Author.Rules.{rules}
+use native.Mathlib.Omega.{arith}
+use lib.ListN.{length, drop, get_or}
+use Rattle.text.specs.Word.{digit_value, word_item, hex_from}
+use Rattle.text.proofs.Digits.{hex_digit, hex_other, hex_end, hex_grows, hex_fits}
+use Rattle.text.proofs.word.read_word.Given as goal
+
+abbrev pub invariant-loop-i : goal.invariant-loop-i
+invariant-loop-i l = (l.i ≤ length l.s) × (l.word < 16 ^ l.i) × (hex_from l.word (drop l.i l.s) ≡ hex_from 0 l.s)
+
+abbrev pub decreases-loop-i : goal.decreases-loop-i
+decreases-loop-i l = length l.s - l.i

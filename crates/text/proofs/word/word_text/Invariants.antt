@@ -1,0 +1,16 @@
+-- `word::word_text` meets its contract: the digits before i, and then the last k of w, are all of them. Assumes nothing.
+use Prim.Native.Nat.{ℕ, suc, ◌+◌, ◌-◌, ◌<◌}
+use mathlib.Core.Path.{◌≡◌, refl, sym, ap, ◌∙◌}
+use mathlib.Core.List.{◌++◌}
+use borrow.Author.Rules.{rules}
+use native.Mathlib.Omega.{arith}
+use lib.ListN.{length, take, set, length-set}
+use Rattle.text.specs.Word.{hex_text, word_text}
+use Rattle.text.proofs.Writing.{hex_next, hex_whole}
+use Rattle.text.proofs.word.word_text.Given as goal
+
+abbrev pub invariant-loop-i : goal.invariant-loop-i
+invariant-loop-i l = (l.i + l.k ≡ 16) × (length l.text ≡ 16) × (take l.i l.text ++ hex_text l.k l.w ≡ word_text l.w)
+
+abbrev pub decreases-loop-i : goal.decreases-loop-i
+decreases-loop-i l = l.k

@@ -1,0 +1,15 @@
+-- `decode` opens a region by the number of decoding. Assumes nothing.
+use native.Mathlib.Omega.{arith}
+use borrow.Author.Rules.{rules}
+use Rattle.dynamics.proofs.Steps.{decode_form, decode_then, decode_else}
+use Rattle.logical_variable_pulse.proofs.Decoding.{pulse}
+use Rattle.logical_variable_pulse.proofs.decode.Goals as goal
+
+pub returns-then-n-ne0 : goal.returns-then-n-ne0
+returns-then-n-ne0 c = decode_form pulse c.args.settings _ c.settings_accepted.ensures c.form_refusal-n.ensures (λ z. omega arith)
+
+pub returns-then-previous_sound : goal.returns-then-previous_sound
+returns-then-previous_sound c = decode_then pulse c.args.settings _ c.settings_accepted.ensures c.form_refusal-n.ensures (omega arith) c.state_of-s.ensures c.previous_sound.ensures c.if-previous_sound.true
+
+pub returns : goal.returns
+returns c = decode_else pulse c.args.settings _ c.settings_accepted.ensures c.form_refusal-n.ensures (omega arith) c.state_of-s.ensures c.previous_sound.ensures c.if-previous_sound.false

@@ -1,0 +1,16 @@
+-- `emit` answers from the state after the tick. Assumes nothing.
+use mathlib.Core.Path.{ap, ◌∙◌}
+use borrow.Author.Rules.{rules}
+use Rattle.dynamics.specs.Answer.{emitted}
+use Rattle.dynamics.proofs.Steps.{emit_else, emit_then}
+use Rattle.logical_variable_pulse.specs.LogicalVariablePulse.{outputs}
+use Rattle.logical_variable_pulse.proofs.Decoding.{pulse}
+use Rattle.logical_variable_pulse.proofs.emit.Goals as goal
+
+pub returns-in_default : goal.returns-in_default
+returns-in_default c = emit_else pulse c.args.settings _ _ _ c.admit-met.ensures c.in_default.is c.number_of.ensures c.silent.ensures
+
+pub returns : goal.returns
+returns c =
+    emit_then pulse c.args.settings _ _ _ c.admit-met.ensures c.in-State.is
+    (c.boolean_answer.ensures ∙ ap (λ s. emitted (outputs s)) c.step-after.ensures)

@@ -1,0 +1,16 @@
+-- `update` stores the tick, and warns where that does. Assumes nothing.
+use Rattle.dynamics.proofs.Opening.{update_else}
+use Rattle.moving_average.specs.MovingAverage.{state_of, machine}
+use Rattle.moving_average.proofs.Decoding.{decoded}
+use Rattle.moving_average.proofs.Steps.{ring_stands, update_then}
+use borrow.Author.Rules.{rules}
+use Rattle.moving_average.proofs.update.Goals as goal
+
+pub returns-in_default : goal.returns-in_default
+returns-in_default c = update_else decoded (machine c.args.settings) state_of _ _ _ c.admit-met.ensures c.in_default.is c.number_of.ensures c.silent.ensures
+
+pub advance-requires : goal.advance-requires
+advance-requires c = ring_stands c.args.settings _ c.args.inputs c.args.region.now c.geometry-shape.ensures c.admit-met.ensures c.in-State.is
+
+pub returns : goal.returns
+returns c = update_then c.args.settings _ c.args.inputs c.args.region.now c.geometry-shape.ensures c.admit-met.ensures c.in-State.is c.real_of.ensures c.mu_now-mu.ensures c.advance.ensures c.warning_answer.ensures

@@ -1,0 +1,6 @@
+-- `block::real_words` has the real output. Assumes nothing.
+use borrow.Author.Rules.{rules}
+use Rattle.blocks.proofs.block.real_words.Goals as goal
+
+pub returns : goal.returns
+returns c = simp c.word_of.ensures

@@ -1,0 +1,13 @@
+-- `run_true_hold_with_reset` leaves the region and the answers of its ticks. Assumes nothing.
+use native.Mathlib.Omega.{arith}
+use Prim.Native.Nat.{◌-◌}
+use borrow.Author.Rules.{rules}
+use Rattle.true_hold_with_reset.specs.TrueHoldWithReset.{machine}
+use Rattle.runs.proofs.Running.{Running, running_none, running_more, running_all}
+use Rattle.runs.proofs.loops.run_true_hold_with_reset.Given as goal
+
+abbrev pub invariant-loop-n : goal.invariant-loop-n
+invariant-loop-n l = Running (machine l.settings) l.ticks l.initial.region l.initial.answers l.region l.answers l.n
+
+abbrev pub decreases-loop-n : goal.decreases-loop-n
+decreases-loop-n l = l.count - l.n

@@ -1,0 +1,36 @@
+-- `run_ticks` is the chosen block's loop. Assumes nothing.
+use Rattle.blocks.specs.Block.{machine_of}
+use borrow.Author.Rules.{rules}
+use Rattle.runs.proofs.run_ticks.Goals as goal
+
+pub returns-in-Pid : goal.returns-in-Pid
+unfolding machine_of
+returns-in-Pid c = rw c.in-Pid.is c.run_pid.ensures
+
+pub returns-in-PidWithReset : goal.returns-in-PidWithReset
+unfolding machine_of
+returns-in-PidWithReset c = rw c.in-PidWithReset.is c.run_pid-in-PidWithReset.ensures
+
+pub returns-in-MovingAverage : goal.returns-in-MovingAverage
+unfolding machine_of
+returns-in-MovingAverage c = rw c.in-MovingAverage.is c.run_moving_average.ensures
+
+pub returns-in-TimerAccumulating : goal.returns-in-TimerAccumulating
+unfolding machine_of
+returns-in-TimerAccumulating c = rw c.in-TimerAccumulating.is c.run_timer_accumulating.ensures
+
+pub returns-in-TrueDelay : goal.returns-in-TrueDelay
+unfolding machine_of
+returns-in-TrueDelay c = rw c.in-TrueDelay.is c.run_true_delay.ensures
+
+pub returns-in-TrueFalseHold : goal.returns-in-TrueFalseHold
+unfolding machine_of
+returns-in-TrueFalseHold c = rw c.in-TrueFalseHold.is c.run_true_false_hold.ensures
+
+pub returns-in-TrueHoldWithReset : goal.returns-in-TrueHoldWithReset
+unfolding machine_of
+returns-in-TrueHoldWithReset c = rw c.in-TrueHoldWithReset.is c.run_true_hold_with_reset.ensures
+
+pub returns-in-LogicalVariablePulse : goal.returns-in-LogicalVariablePulse
+unfolding machine_of
+returns-in-LogicalVariablePulse c = rw c.in-LogicalVariablePulse.is c.run_logical_variable_pulse.ensures

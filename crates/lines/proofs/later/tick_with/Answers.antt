@@ -1,0 +1,6 @@
+-- `later::tick_with` meets its contract: word by word. Assumes nothing.
+use borrow.Author.Rules.{rules}
+use Rattle.lines.proofs.later.tick_with.Goals as goal
+
+pub returns : goal.returns
+returns c = rw c.real_of.ensures

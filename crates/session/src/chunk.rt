@@ -23,8 +23,8 @@ pub struct Fed {
 }
 
 fn least(a: usize, b: usize) -> usize
-    ensures upper_bound { result ≤ a }
-    ensures upper_bound_2 { result ≤ b }
+    ensures at_most_a { result ≤ a }
+    ensures at_most_b { result ≤ b }
     ensures value { result ≡ min a b }
 {
     if a < b { a } else { b }
@@ -54,7 +54,7 @@ fn feed_all(
 ) -> Fed
     requires { (length carry.old ≡ 256) × (32 * length chunk.now ≤ length out.old) }
     ensures feeds { Feeds (streamed (at_hand session region.old carry.old held) chunk.now) result.session region.new carry.new result.held out.old result.wrote out.new }
-    ensures used_value { result.used ≡ length chunk.now }
+    ensures used { result.used ≡ length chunk.now }
     ensures counts { Counts result.wrote out.new }
 {
     let mut s = session;
@@ -92,7 +92,7 @@ pub fn feed(
     region: &mut [u64; 4110],
     out: &mut [u8],
 ) -> Fed
-    ensures used_value { result.used ≡ min (length chunk.now) (length out.old / 32) }
+    ensures used { result.used ≡ min (length chunk.now) (length out.old / 32) }
     ensures feeds { Feeds (streamed (at_hand session region.old carry.old held) (take result.used chunk.now)) result.session region.new carry.new result.held out.old result.wrote out.new }
     ensures counts { Counts result.wrote out.new }
 {

@@ -1,0 +1,13 @@
+-- `answer::put_real` meets its contract: its pieces are the line. Assumes nothing.
+use borrow.Author.Rules.{rules}
+use mathlib.Core.Path.{ap, ◌∙◌}
+use Rattle.text.specs.Word.{word_text}
+use Rattle.session.proofs.Putting.{put_more, put_as}
+use Rattle.session.proofs.Answering.{real_line}
+use Rattle.session.proofs.answer.put_real.Goals as goal
+
+pub returns : goal.returns
+returns c =
+    put_as
+    (real_line c.args.answer (c.word_text-text.ensures ∙ ap word_text c.word_of.ensures))
+    (put_more c.put_bytes-real_end.ensures c.put_byte.ensures)

@@ -8,6 +8,9 @@ use crate::compare::Verdict;
 use crate::form::{Form, form_of};
 use crate::line::read_words;
 use crate::report::{print_tally, tell};
+use std::fs::File;
+use std::io::Read;
+use std::rt::Files;
 use text::end_of;
 
 // How many calls were replayed, and how many of them differ.
@@ -29,8 +32,9 @@ fn replay_line(form: Form, line: &[u8], region: &mut [u64], expected: &mut [u64]
 
 // Replays every line, and tells of each that differs. Where none does, the block agrees with every line.
 fn replay_lines(
+    rt: &impl Print,
     form: Form,
-    file: &[u8],
+    file: &str,
     lines: &[u8],
     region: &mut [u64],
     expected: &mut [u64],
@@ -46,7 +50,7 @@ fn replay_lines(
         let end = end_of(lines, at, b'\n');
         let verdict = replay_line(form, &lines[at..end], region, expected);
         calls += 1;
-        differ += tell(file, calls, verdict);
+        differ += tell(rt, file, calls, verdict);
         if end == lines.len() {
             break;
         }
@@ -55,10 +59,36 @@ fn replay_lines(
     Tally { calls, differ }
 }
 
+// Reads until there is no more room, the input ends or a read fails. How many bytes were read.
+fn read_full(input: &mut impl Read, bytes: &mut [u8]) -> usize
+    ensures { result ≤ length bytes.new }
+{
+    let mut done = 0;
+    while done < bytes.len() {
+        let n = input.read(&mut bytes[done..]).unwrap_or(0);
+        if n == 0 {
+            break;
+        }
+        done += n;
+    }
+    done
+}
+
+// Reads a file, as far as it can be read. How many bytes were read.
+fn read_file(rt: &impl Files, file: &str, bytes: &mut [u8]) -> usize
+    ensures { result ≤ length bytes.new }
+{
+    match File::open(rt, file) {
+        Ok(mut input) => read_full(&mut input, bytes),
+        Err(_) => 0,
+    }
+}
+
 // Replays the list in a file. A file that cannot be read has no calls.
 fn replay_list(
+    rt: &(impl Files + Print),
     form: Form,
-    file: &[u8],
+    file: &str,
     bytes: &mut [u8],
     region: &mut [u64],
     expected: &mut [u64],
@@ -66,40 +96,56 @@ fn replay_list(
     requires { Sized form }
     ensures { Counted (length bytes.old) result }
 {
-    let fd = os::open_read(file);
-    let n = io::read_full(fd, bytes);
-    let tally = replay_lines(form, file, &bytes[..n], region, expected);
-    libc::close(fd);
-    print_tally(file, tally);
+    let n = read_file(rt, file, bytes);
+    let tally = replay_lines(rt, form, file, &bytes[..n], region, expected);
+    print_tally(rt, file, tally);
     tally
 }
 
 // Replays the list of the block of a number.
-fn replay_block(number: u64, bytes: &mut [u8], region: &mut [u64], expected: &mut [u64]) -> Tally
+fn replay_block(
+    rt: &(impl Files + Print),
+    number: u64,
+    bytes: &mut [u8],
+    region: &mut [u64],
+    expected: &mut [u64],
+) -> Tally
     ensures { Counted (length bytes.old) result }
 {
     let form = form_of(number);
     match number {
-        0 => replay_list(form, b"Pid.txt", bytes, region, expected),
-        1 => replay_list(form, b"PidWithReset.txt", bytes, region, expected),
-        2 => replay_list(form, b"MovingAverage.txt", bytes, region, expected),
-        3 => replay_list(form, b"TimerAccumulating.txt", bytes, region, expected),
-        4 => replay_list(form, b"TrueDelay.txt", bytes, region, expected),
-        5 => replay_list(form, b"TrueFalseHold.txt", bytes, region, expected),
-        6 => replay_list(form, b"TrueHoldWithReset.txt", bytes, region, expected),
-        _ => replay_list(form, b"LogicalVariablePulse.txt", bytes, region, expected),
+        0 => replay_list(rt, form, "Pid.txt", bytes, region, expected),
+        1 => replay_list(rt, form, "PidWithReset.txt", bytes, region, expected),
+        2 => replay_list(rt, form, "MovingAverage.txt", bytes, region, expected),
+        3 => replay_list(rt, form, "TimerAccumulating.txt", bytes, region, expected),
+        4 => replay_list(rt, form, "TrueDelay.txt", bytes, region, expected),
+        5 => replay_list(rt, form, "TrueFalseHold.txt", bytes, region, expected),
+        6 => replay_list(rt, form, "TrueHoldWithReset.txt", bytes, region, expected),
+        _ => replay_list(
+            rt,
+            form,
+            "LogicalVariablePulse.txt",
+            bytes,
+            region,
+            expected,
+        ),
     }
 }
 
 // Replays the lists of all eight blocks.
-pub(crate) fn replay_all(bytes: &mut [u8], region: &mut [u64], expected: &mut [u64]) -> Tally
+pub(crate) fn replay_all(
+    rt: &(impl Files + Print),
+    bytes: &mut [u8],
+    region: &mut [u64],
+    expected: &mut [u64],
+) -> Tally
     requires { length bytes.old ≤ 262144 }
 {
     let mut calls: u64 = 0;
     let mut differ: u64 = 0;
     let mut number: u64 = 0;
     while number < 8 {
-        let tally = replay_block(number, bytes, region, expected);
+        let tally = replay_block(rt, number, bytes, region, expected);
         calls += tally.calls;
         differ += tally.differ;
         number += 1;

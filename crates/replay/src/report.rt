@@ -4,58 +4,63 @@ ghost use Rattle.replay.specs.List.{told};
 
 use crate::compare::Verdict;
 use crate::list::Tally;
-use libc::STDOUT_FILENO;
 use text::end_of;
 
-fn print(s: &[u8]) {
-    io::write_all(STDOUT_FILENO, s);
+// What cannot be written is lost.
+fn print(rt: &impl Print, s: &[u8]) {
+    let _ = rt.write_all(s);
+}
+
+fn print_decimal(rt: &impl Print, n: u64) {
+    let _ = print!(rt; "{n}");
 }
 
 // The block's name: the file's up to its dot.
-fn print_name(file: &[u8]) {
-    let end = end_of(file, 0, b'.');
-    print(&file[..end]);
+fn print_name(rt: &impl Print, file: &str) {
+    let name = file.as_bytes();
+    let end = end_of(name, 0, b'.');
+    print(rt, &name[..end]);
 }
 
-fn print_counts(tally: Tally) {
-    print(b" ");
-    io::print_decimal(STDOUT_FILENO, tally.calls);
-    print(b" calls, ");
-    io::print_decimal(STDOUT_FILENO, tally.differ);
-    print(b" differ\n");
+fn print_counts(rt: &impl Print, tally: Tally) {
+    print(rt, b" ");
+    print_decimal(rt, tally.calls);
+    print(rt, b" calls, ");
+    print_decimal(rt, tally.differ);
+    print(rt, b" differ\n");
 }
 
 // A block's line.
-pub fn print_tally(file: &[u8], tally: Tally) {
-    print_name(file);
-    print_counts(tally);
+pub fn print_tally(rt: &impl Print, file: &str, tally: Tally) {
+    print_name(rt, file);
+    print_counts(rt, tally);
 }
 
 // The last line.
-pub fn print_total(tally: Tally) {
-    print(b"total");
-    print_counts(tally);
+pub fn print_total(rt: &impl Print, tally: Tally) {
+    print(rt, b"total");
+    print_counts(rt, tally);
 }
 
 // What is wrong with a line of a list.
-fn print_wrong(file: &[u8], line: u64, what: &[u8]) {
-    print(file);
-    print(b" line ");
-    io::print_decimal(STDOUT_FILENO, line);
-    print(what);
+fn print_wrong(rt: &impl Print, file: &str, line: u64, what: &[u8]) {
+    print(rt, file.as_bytes());
+    print(rt, b" line ");
+    print_decimal(rt, line);
+    print(rt, what);
 }
 
 // Tells of a line that differs. 1 for such a line, 0 for another.
-pub fn tell(file: &[u8], line: u64, verdict: Verdict) -> u64
+pub fn tell(rt: &impl Print, file: &str, line: u64, verdict: Verdict) -> u64
     ensures value { result ≡ told verdict }
     ensures upper_bound { result ≤ 1 }
 {
     match verdict {
         Verdict::Same => return 0,
-        Verdict::Emit => print_wrong(file, line, b": the emit differs\n"),
-        Verdict::Update => print_wrong(file, line, b": the update differs\n"),
-        Verdict::Tick => print_wrong(file, line, b": the tick differs\n"),
-        Verdict::Malformed => print_wrong(file, line, b" is not a stored call\n"),
+        Verdict::Emit => print_wrong(rt, file, line, b": the emit differs\n"),
+        Verdict::Update => print_wrong(rt, file, line, b": the update differs\n"),
+        Verdict::Tick => print_wrong(rt, file, line, b": the tick differs\n"),
+        Verdict::Malformed => print_wrong(rt, file, line, b" is not a stored call\n"),
     }
     1
 }

@@ -2,11 +2,12 @@
 ghost use Rattle.std.specs.Prelude.{◌*◌, ◌≤◌, length};
 ghost use Rattle.soak.specs.Run.{Reached, TurnTaken};
 
-use libc::{STDIN_FILENO, STDOUT_FILENO};
 use session::{Session, feed};
+use std::io;
+use std::io::{Read, Write};
 
-// The run after a turn: how many bytes came, how many were written for them, and whether reading and writing went well.
-// `wrote` is this file's own, so nobody else can make one up: a turn comes from `take_turn`.
+// The run after a turn: how many bytes came, how many were written for them, whether reading and writing went well, and the
+// system's reason where they did not. `wrote` is this file's own, so nobody else can make one up: a turn comes from `take_turn`.
 #[derive(Clone, Copy)]
 pub(crate) struct Turn {
     pub(crate) session: Session,
@@ -15,10 +16,13 @@ pub(crate) struct Turn {
     wrote: usize,
     pub(crate) is_read: bool,
     pub(crate) is_written: bool,
+    pub(crate) reason: Option<io::Error>,
 }
 
 // Reads once, takes all that came, and writes what it is answered with.
-pub(crate) fn take_turn(
+pub(crate) fn take_turn<R: Read, W: Write>(
+    input: &mut R,
+    output: &mut W,
     session: Session,
     held: usize,
     carry: &mut [u8; 256],
@@ -30,18 +34,19 @@ pub(crate) fn take_turn(
     requires chunk_in_bounds { 32 * length chunk.old ≤ length out.old }
     ensures { TurnTaken session held carry.old region.old carry.new region.new chunk.new out.new result }
 {
-    let got = libc::read(STDIN_FILENO, chunk);
-    let n = io::count(got, chunk);
+    let got = input.read(chunk);
+    let n = got.unwrap_or(0);
     let fed = feed(session, held, carry, &chunk[..n], region, out);
     let wrote = fed.wrote;
-    let is_written = io::write_all(STDOUT_FILENO, &out[..wrote]);
+    let put = output.write_all(&out[..wrote]);
     let next = fed.session;
     Turn {
         session: next,
         held: fed.held,
         read: n,
         wrote,
-        is_read: 0 <= got,
-        is_written,
+        is_read: got.is_ok(),
+        is_written: put.is_ok(),
+        reason: got.err().or(put.err()),
     }
 }

@@ -1,0 +1,18 @@
+-- `list::replay_lines` meets its contract. The invariant: no more calls than bytes passed, and if none differs and all lines that are
+-- left hold, then all do. Assumes nothing.
+use Prim.Native.Nat.{◌-◌, ◌≤◌}
+use mathlib.Core.Path.{◌≡◌, refl}
+use borrow.Author.Rules.{rules}
+use native.Mathlib.Omega.{arith}
+use lib.ListN.{length}
+use Rattle.replay.specs.List.{AllHold, none}
+use Rattle.replay.proofs.Listing.{one_more}
+use Rattle.replay.proofs.list.replay_lines.Given as goal
+
+abbrev pub invariant-loop-at : goal.invariant-loop-at
+invariant-loop-at g l =
+    (l.at ≤ length l.lines) × (l.calls ≤ l.at) × (l.differ ≤ l.calls) × (length l.region ≡ length l.initial.region) × (length l.expected ≡ length l.initial.expected)
+    × (l.differ ≡ 0 → AllHold l.form l.lines l.at → AllHold l.form l.lines 0)
+
+abbrev pub decreases-loop-at : goal.decreases-loop-at
+decreases-loop-at g l = length l.lines - l.at

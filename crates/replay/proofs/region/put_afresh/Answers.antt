@@ -1,0 +1,6 @@
+-- `region::put_afresh` meets its contract. Assumes nothing.
+use borrow.Author.Rules.{rules}
+use Rattle.replay.proofs.region.put_afresh.Goals as goal
+
+pub returns : goal.returns
+returns c = rw c.clear.ensures at c.put.ensures

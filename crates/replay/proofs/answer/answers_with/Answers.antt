@@ -1,5 +1,4 @@
 -- `answer::answers_with` meets its contract. Assumes nothing.
-use borrow.Author.Rules.{rules}
 use Rattle.replay.specs.Answer.{answers_with}
 use Rattle.replay.proofs.answer.answers_with.Goals as goal
 

@@ -1,5 +1,4 @@
 -- `answer::stored_at` meets its contract. Assumes nothing.
-use borrow.Author.Rules.{rules}
 use Rattle.replay.specs.Answer.{stored_at}
 use Rattle.replay.proofs.answer.stored_at.Goals as goal
 

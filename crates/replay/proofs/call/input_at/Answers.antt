@@ -1,5 +1,4 @@
 -- `call::input_at` meets its contract. Assumes nothing.
-use borrow.Author.Rules.{rules}
 use borrow.Author.Tests.{lt-ltb, le-ltb}
 use Rattle.replay.specs.Call.{input_at}
 use Rattle.replay.proofs.call.input_at.Goals as goal

@@ -1,5 +1,4 @@
 -- `call::tick_at` meets its contract. Assumes nothing.
-use borrow.Author.Rules.{rules}
 use Rattle.replay.specs.Call.{tick_at}
 use Rattle.replay.proofs.call.tick_at.Goals as goal
 

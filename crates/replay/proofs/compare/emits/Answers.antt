@@ -1,5 +1,4 @@
 -- `compare::emits` meets its contract. Assumes nothing.
-use borrow.Author.Rules.{rules}
 use Rattle.replay.specs.Compare.{emit_agrees}
 use Rattle.replay.proofs.compare.emits.Goals as goal
 

@@ -1,5 +1,4 @@
 -- `compare::lay_out` meets its contract. Assumes nothing.
-use borrow.Author.Rules.{rules}
 use native.Mathlib.Omega.{arith}
 use Rattle.replay.proofs.LayingOut.{laid_out_lem}
 use Rattle.replay.proofs.compare.lay_out.Goals as goal

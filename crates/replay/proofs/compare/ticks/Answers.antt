@@ -1,5 +1,4 @@
 -- `compare::ticks` meets its contract. Assumes nothing.
-use borrow.Author.Rules.{rules}
 use Rattle.replay.specs.Compare.{tick_agrees}
 use Rattle.replay.proofs.compare.ticks.Goals as goal
 

@@ -1,5 +1,4 @@
 -- `compare::ticks_afresh` meets its contract. Assumes nothing.
-use borrow.Author.Rules.{rules}
 use lib.ListN.{length}
 use Rattle.replay.proofs.Agreeing.{never_true, ticked_afresh}
 use Rattle.replay.proofs.compare.ticks_afresh.Goals as goal

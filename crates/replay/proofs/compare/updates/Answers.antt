@@ -1,5 +1,4 @@
 -- `compare::updates` meets its contract. Assumes nothing.
-use borrow.Author.Rules.{rules}
 use Rattle.replay.specs.Compare.{update_agrees}
 use Rattle.replay.proofs.compare.updates.Goals as goal
 

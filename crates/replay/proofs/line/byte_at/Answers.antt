@@ -1,7 +1,6 @@
 -- `line::byte_at` meets its contract: past the end it reads a space. Assumes nothing.
 use mathlib.Core.Path.{sym}
 use lib.ListN.{get_or-eq_default}
-use borrow.Author.Rules.{rules}
 use Rattle.replay.proofs.Lines.{get_d_within}
 use Rattle.replay.proofs.line.byte_at.Goals as goal
 

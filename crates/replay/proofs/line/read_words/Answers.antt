@@ -1,10 +1,9 @@
 -- `line::read_words` meets its contract. The invariant: the words below n are the line's items, and the next one starts at `at`. Assumes nothing.
-use Prim.Native.Nat.{ℕ, ◌-◌, ◌*◌, ◌≤◌, ◌<◌}
+use Prim.Native.Nat.{ℕ, ◌*◌}
 use mathlib.Core.Path.{◌≡◌, refl, sym, ap, ◌∙◌}
 use borrow.Author.Count.{below_none}
-use borrow.Author.Rules.{rules}
 use native.Mathlib.Omega.{arith}
-use lib.ListN.{length, get_or, length-set}
+use lib.ListN.{length-set}
 use Rattle.text.specs.declared.word.Item.TheVariants.{Word}
 use Rattle.replay.specs.Line.{item_from}
 use Rattle.replay.proofs.Lines.{no_words, each_more, last_word}

@@ -1,7 +1,6 @@
 -- `list::replay_all` is safe and ends: eight lists have at most eight times as many calls as there is room for bytes. Assumes nothing.
 use Prim.Native.Nat.{◌-◌, ◌*◌, ◌≤◌}
 use mathlib.Core.Path.{◌≡◌}
-use borrow.Author.Rules.{rules}
 use lib.ListN.{length}
 use Rattle.replay.proofs.list.replay_all.Given as goal
 

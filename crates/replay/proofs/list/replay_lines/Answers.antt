@@ -1,11 +1,9 @@
 -- `list::replay_lines` meets its contract. The invariant: no more calls than bytes passed, and if none differs and all lines that are
 -- left hold, then all do. Assumes nothing.
-use Prim.Native.Nat.{◌-◌, ◌≤◌}
-use mathlib.Core.Path.{◌≡◌, refl}
+use mathlib.Core.Path.{refl}
 use borrow.Author.Rules.{rules}
 use native.Mathlib.Omega.{arith}
-use lib.ListN.{length}
-use Rattle.replay.specs.List.{AllHold, none}
+use Rattle.replay.specs.List.{none}
 use Rattle.replay.proofs.Listing.{one_more}
 use Rattle.replay.proofs.list.replay_lines.Goals as goal
 

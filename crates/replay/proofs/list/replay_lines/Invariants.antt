@@ -1,12 +1,9 @@
 -- `list::replay_lines` meets its contract. The invariant: no more calls than bytes passed, and if none differs and all lines that are
 -- left hold, then all do. Assumes nothing.
 use Prim.Native.Nat.{◌-◌, ◌≤◌}
-use mathlib.Core.Path.{◌≡◌, refl}
-use borrow.Author.Rules.{rules}
-use native.Mathlib.Omega.{arith}
+use mathlib.Core.Path.{◌≡◌}
 use lib.ListN.{length}
-use Rattle.replay.specs.List.{AllHold, none}
-use Rattle.replay.proofs.Listing.{one_more}
+use Rattle.replay.specs.List.{AllHold}
 use Rattle.replay.proofs.list.replay_lines.Given as goal
 
 abbrev pub invariant-loop-at : goal.invariant-loop-at

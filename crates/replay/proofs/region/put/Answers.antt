@@ -1,5 +1,4 @@
 -- `region::put` meets its contract. Assumes nothing.
-use borrow.Author.Rules.{rules}
 use Rattle.replay.proofs.region.put.Goals as goal
 
 pub returns-then-pairs : goal.returns-then-pairs

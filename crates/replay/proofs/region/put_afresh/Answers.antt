@@ -1,5 +1,4 @@
 -- `region::put_afresh` meets its contract. Assumes nothing.
-use borrow.Author.Rules.{rules}
 use Rattle.replay.proofs.region.put_afresh.Goals as goal
 
 pub returns : goal.returns

@@ -1,6 +1,5 @@
 -- `region::put_all` meets its contract. Assumes nothing.
 use mathlib.Core.Path.{refl, ◌∙◌}
-use borrow.Author.Rules.{rules}
 use native.Mathlib.Omega.{arith}
 use Rattle.replay.specs.Region.{filled, ending}
 use Rattle.replay.proofs.Putting.{stored_all}

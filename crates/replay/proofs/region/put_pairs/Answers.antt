@@ -1,10 +1,8 @@
 -- `region::put_pairs` meets its contract: the pairs that are left make of the region what all of them make of it as it was. Assumes nothing.
-use Prim.Native.Nat.{◌+◌, ◌*◌, ◌≤◌}
-use mathlib.Core.Path.{◌≡◌, refl, sym, ◌∙◌}
-use borrow.Author.Rules.{rules}
+use mathlib.Core.Path.{refl, sym, ◌∙◌}
 use native.Mathlib.Omega.{arith}
-use lib.ListN.{length, drop, get_or, length-set}
-use Rattle.replay.specs.Region.{paired, filled, ending}
+use lib.ListN.{drop, length-set}
+use Rattle.replay.specs.Region.{filled, ending}
 use Rattle.replay.proofs.Putting.{paired_none, paired_more}
 use Rattle.replay.proofs.region.put_pairs.Goals as goal
 

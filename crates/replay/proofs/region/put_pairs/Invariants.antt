@@ -1,11 +1,8 @@
 -- `region::put_pairs` meets its contract: the pairs that are left make of the region what all of them make of it as it was. Assumes nothing.
 use Prim.Native.Nat.{◌+◌, ◌*◌, ◌≤◌}
-use mathlib.Core.Path.{◌≡◌, refl, sym, ◌∙◌}
-use borrow.Author.Rules.{rules}
-use native.Mathlib.Omega.{arith}
-use lib.ListN.{length, drop, get_or, length-set}
-use Rattle.replay.specs.Region.{paired, filled, ending}
-use Rattle.replay.proofs.Putting.{paired_none, paired_more}
+use mathlib.Core.Path.{◌≡◌}
+use lib.ListN.{length, drop, get_or}
+use Rattle.replay.specs.Region.{paired}
 use Rattle.replay.proofs.region.put_pairs.Given as goal
 
 abbrev pub invariant-loop-left : goal.invariant-loop-left

@@ -1,10 +1,7 @@
 -- `region::same_words` meets its contract: what is left of the two from i on is the same exactly if the two are. Assumes nothing.
-use Prim.Native.Nat.{◌-◌, ◌≤◌}
-use mathlib.Core.Path.{◌≡◌, refl, sym, ◌∙◌}
+use mathlib.Core.Path.{refl, sym, ◌∙◌}
 use borrow.Author.Rules.{rules}
 use native.Mathlib.Omega.{arith}
-use lib.ListN.{length, drop}
-use Rattle.text.specs.Bytes.{same_list}
 use Rattle.text.proofs.Comparing.{same_here, same_not, same_end, same_length}
 use Rattle.replay.proofs.region.same_words.Goals as goal
 

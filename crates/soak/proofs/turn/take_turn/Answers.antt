@@ -13,4 +13,4 @@ returns g c =
     let n = c.unwrap_or-n in
     let f = c.feed-fed in
     let room : 32 * length r.new.buf ≤ length a.out.now = omega (arith, r.auto.buf, c.requires.chunk_in_bounds) in
-    turn_taken a.session a.held a.carry.now a.region.now r.new.buf n.result (search rules) room f.ensures.used_value f.ensures.feeds
+    turn_taken a.session a.held a.carry.now a.region.now r.new.buf n.result (search rules) room f.ensures.used f.ensures.feeds

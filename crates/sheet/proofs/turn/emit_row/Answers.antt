@@ -13,9 +13,6 @@ returns-then-not-spans c =
     let a = c.args in
     emits_none a.row a.walk a.region.now a.seen.now a.i _ a.time c.end_of-end.ensures (sym c.spans.ensures ∙ not-true c.spans.result c.if-not-spans.true-raw)
 
-pub offset_bounds-region-at : goal.offset_bounds-region-at
-offset_bounds-region-at c = record { fits = omega (arith, part_emit_start c, part_emit_end c, c.well_formed) }
-
 pub slice_bounds-emit-count : goal.slice_bounds-emit-count
 slice_bounds-emit-count c = (within _ _ (length c.args.region.now) (sym c.spans.ensures ∙ not-false c.spans.result c.if-not-spans.false-raw)).0
 
@@ -28,5 +25,5 @@ slice_bounds-emit-end c = (within _ _ (length c.args.region.now) (sym c.spans.en
 pub returns : goal.returns
 returns c =
     let a = c.args in
-    emits_row a.row a.walk a.region.now a.seen.now a.i _ a.time c.slice_known-1.ensures (sym c.spans.ensures ∙ not-false c.spans.result c.if-not-spans.false-raw)
+    emits_row a.row a.walk a.region.now a.seen.now a.i _ a.time c.end_of-end.ensures (sym c.spans.ensures ∙ not-false c.spans.result c.if-not-spans.false-raw)
     _ c.row_tick-tick.ensures _ _ _ _ _ c.emit-answer.ensures c.answer_words.ensures c.put_answer.ensures c.noted.ensures c.moved_to.ensures

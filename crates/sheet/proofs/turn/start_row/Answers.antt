@@ -14,12 +14,6 @@ returns-then-not-lies c =
     let a = c.args in
     starts_none a.row a.walk a.region.now [] _ (ap (λ (l : Length). l.length) c.state_length-own.ensures) (sym c.lies.ensures ∙ not-true c.lies.result c.if-not-lies.true-raw)
 
-pub overflow_add-end : goal.overflow_add-end
-overflow_add-end c = record { fits = omega (arith, part_start_end c, c.well_formed) }
-
-pub offset_bounds-region-at : goal.offset_bounds-region-at
-offset_bounds-region-at c = record { fits = omega (arith, part_start_end c, c.well_formed) }
-
 pub slice_bounds-start-end : goal.slice_bounds-start-end
 slice_bounds-start-end c =
     let a = c.args in

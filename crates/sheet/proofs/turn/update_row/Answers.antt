@@ -13,9 +13,6 @@ returns-then-not-spans c =
     let a = c.args in
     updates_none a.row a.walk a.region.now a.seen.now a.i _ a.time c.end_of-end.ensures (sym c.spans.ensures ∙ not-true c.spans.result c.if-not-spans.true-raw)
 
-pub offset_bounds-region-at : goal.offset_bounds-region-at
-offset_bounds-region-at c = record { fits = omega (arith, part_update_start c, part_update_end c, c.well_formed) }
-
 pub slice_bounds-update-count : goal.slice_bounds-update-count
 slice_bounds-update-count c = (within _ _ (length c.args.region.now) (sym c.spans.ensures ∙ not-false c.spans.result c.if-not-spans.false-raw)).0
 

@@ -22,8 +22,8 @@ returns-then-answers c =
 pub returns : goal.returns
 returns c =
     let a = c.args in
-    let all : length a.t2 ≡ own_words = search rules in
+    let all : length a.seen ≡ own_words = search rules in
     record {
       answers = c.answer_of-2.ensures;
-      leaves = c.store.ensures ∙ hands_out a.walk a.t2 a.answers.now c.if-walk-ne0.false all c.if-answers.false;
+      leaves = c.store.ensures ∙ hands_out a.walk a.seen a.answers.now c.if-walk-ne0.false all c.if-answers.false;
     }

@@ -10,6 +10,6 @@ use Rattle.sheet.proofs.walk.in_sight.Goals as goal
 
 pub returns : goal.returns
 returns c =
-    let k = c.args.t1 in
+    let k = c.args.tick in
     let eight : length k.words ≡ input_words = search rules in
     record { eight = eight; words = ap (λ (l : List ℕ). l ++ replicate (row_answers * most_rows + most_rows) 0) (eight_are k.words eight) }

@@ -8,6 +8,7 @@ pub mod Admission
 pub mod Emits
 pub mod Works
 pub mod Results
+pub mod Rows
 pub mod Single
 pub mod Unfed
 pub mod Runs

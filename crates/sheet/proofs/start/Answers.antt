@@ -1,6 +1,4 @@
 -- `start` surveys the rows, and then starts each on its stretch: the walks' time is looked at by neither. Assumes nothing.
-use Rattle.std.proofs.Common.{◌≡◌, ◌∙◌, ap, length}
-use Rattle.sheet.specs.Walk.{surveyed}
 use Rattle.sheet.proofs.Rows.{start_so}
 use Rattle.sheet.proofs.start.Goals as goal
 

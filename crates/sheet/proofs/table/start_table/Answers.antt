@@ -1,6 +1,5 @@
 -- `start_table` is `start` over the table's rows. Assumes nothing.
 use Rattle.sheet.proofs.Full.{full_of, clipped_few, clipped_rows}
-use borrow.Author.Rules.{rules}
 use Rattle.sheet.proofs.table.start_table.Goals as goal
 
 pub start_first-requires : goal.start_first-requires

@@ -1,6 +1,5 @@
 -- `tick_table` is `tick` over the table's rows. Assumes nothing.
 use Rattle.sheet.proofs.Full.{full_of, clipped_few, clipped_rows}
-use borrow.Author.Rules.{rules}
 use Rattle.sheet.proofs.table.tick_table.Goals as goal
 
 pub tick_first-requires : goal.tick_first-requires

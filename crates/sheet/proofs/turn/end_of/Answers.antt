@@ -2,7 +2,6 @@
 use mathlib.Core.Path.{refl}
 use borrow.Author.Tests.{lt-ltb, le-ltb}
 use Rattle.sheet.specs.Sheet.{most_rows}
-use borrow.Author.Rules.{rules}
 use Rattle.sheet.proofs.turn.end_of.Goals as goal
 
 pub returns-then-i-ge-MOST_ROWS : goal.returns-then-i-ge-MOST_ROWS

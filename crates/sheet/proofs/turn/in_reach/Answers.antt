@@ -1,6 +1,5 @@
 -- `in_reach` asks it of the largest of its columns. Assumes nothing.
 use mathlib.Core.Path.{◌∙◌}
-use borrow.Author.Rules.{rules}
 use Rattle.sheet.proofs.Feeding.{largest_named}
 use Rattle.sheet.proofs.turn.in_reach.Goals as goal
 

@@ -1,7 +1,6 @@
 -- `row_tick` takes its inputs from the words that the row's columns name. Assumes nothing.
 use mathlib.Core.Path.{refl}
 use Rattle.sheet.specs.Walk.{tick_by}
-use borrow.Author.Rules.{rules}
 use Rattle.sheet.proofs.turn.row_tick.Goals as goal
 
 pub returns : goal.returns

@@ -1,7 +1,6 @@
 -- `emitted` ends a tick that an emit refused. Assumes nothing.
 use mathlib.Core.Path.{refl}
 use borrow.Author.Tests.{eq-eqb, ne_eqb}
-use borrow.Author.Rules.{rules}
 use Rattle.sheet.proofs.walk.emitted.Goals as goal
 
 pub returns-then-walk-ne0 : goal.returns-then-walk-ne0

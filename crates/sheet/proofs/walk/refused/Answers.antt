@@ -1,6 +1,5 @@
 -- `refused` ends a walk with a number and a row. Assumes nothing.
 use mathlib.Core.Path.{refl}
-use borrow.Author.Rules.{rules}
 use Rattle.sheet.proofs.walk.refused.Goals as goal
 
 pub returns : goal.returns

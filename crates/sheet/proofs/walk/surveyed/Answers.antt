@@ -2,7 +2,6 @@
 use mathlib.Core.Path.{refl}
 use borrow.Author.Tests.{eq-eqb, ne_eqb}
 use Rattle.sheet.specs.Walk.{surveyed}
-use borrow.Author.Rules.{rules}
 use Rattle.sheet.proofs.walk.surveyed.Goals as goal
 
 pub returns-then-walk-ne0 : goal.returns-then-walk-ne0

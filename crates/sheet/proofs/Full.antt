@@ -7,7 +7,7 @@ use mathlib.Core.Path.{◌≡◌, refl, sym, ◌∙◌}
 use mathlib.Core.List.{List}
 use borrow.Author.Tests.{ltb-true, ltb-false}
 use lib.Dec.{ltb}
-use lib.ListN.{length, take, length-map}
+use lib.ListN.{length, take}
 use lib.Seq.{take_all}
 use mir.Val.{Val}
 use denote.Laws.{Is}
@@ -19,7 +19,7 @@ use Rattle.sheet.specs.contracts.table.Table as B
 use Rattle.sheet.proofs.table.Table.TheLaws as B'
 
 pub full_of : (t : Table) (vs : List Val) → Is B.the_row t vs → length t.rows ≡ table_rows
-full_of t vs g = let a = (LL.owed B.the_type B'.the_laws t vs g).0 in sym (length-map t.rows _) ∙ a.1.0.1
+full_of t vs g = let a = (LL.owed B.the_type B'.the_laws t vs g).0 in a.1.0.1
 
 pub clipped_few : (count : ℕ) → clipped count ≤ table_rows
 clipped_few count = ⊎_elim (λ e. rw e (le_refl table_rows)) (λ e. rw e (ltb-false table_rows count e)) (either (ltb table_rows count))

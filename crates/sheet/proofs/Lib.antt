@@ -1,4 +1,4 @@
--- Laws of sheets: what the walks over the rows give, then how the functions that lend rows are walked by hand.
+-- Laws of sheets: what the walks over the rows give, what follows for a sheet and its rows, and the rows of a table.
 pub mod Stretches
 pub mod Feeding
 pub mod Ends
@@ -8,6 +8,7 @@ pub mod Admission
 pub mod Emits
 pub mod Works
 pub mod Results
+pub mod Rows
 pub mod Single
 pub mod Unfed
 pub mod Runs
@@ -16,9 +17,4 @@ pub mod Wiping
 pub mod TwoRows
 pub mod Seventeen
 pub mod OneResult
-pub mod Locals
-pub mod Again
-pub mod Rows
-pub mod Words
-pub mod Lends
 pub mod Full

@@ -33,8 +33,8 @@ tick_table_once = record { alike = λ κs a x y s t p q. (p.answer ∙ sym q.ans
 pub tick_table_once_said : OnceLeft tick_table.Post (λ κs s. s.1.1.1.0.now)
 tick_table_once_said = record { alike = λ κs a x y s t p q. (p.answer ∙ sym q.answer, p.answers ∙ sym q.answers) }
 
--- ---- the calls whose rows are lent, which are walked by hand: of these the check reads no contract. What stands here in its place is the
--- `ensures` of the statement that is proved of them: at every model of the logic it is this fact of what the call leaves
+-- ---- the calls whose rows are lent: over the `ensures` of the statement that is proved of them. At every model of the logic it is this fact of
+-- what the call leaves
 abbrev StartPost : (κs : Lfts 2) → Args start.signature κs → SheetAnswer → AtExit start.ended κs → Type 0
 StartPost κs a r s = SheetStarted a.0.now a.1.0.now r s.1.0.now
 

@@ -4,7 +4,7 @@ use native.Mathlib.Nat.{not-suc-le-zero, le_of_suc-le-suc}
 use native.Mathlib.Omega.{arith}
 use mathlib.Core.Path.{◌≡◌, refl, sym, ◌∙◌, ap, subst}
 use mathlib.Core.Bool.{Bool, true, false, not, ◌&&◌, and-true, and-false, true≢false}
-use mathlib.Core.Logic.{◌⊎◌, ⊎_elim}
+use mathlib.Core.Logic.{⊎_elim}
 use mathlib.Core.List.{List, [], ◌∷◌, ◌++◌, map}
 use borrow.Author.Tests.{eqb-true, eq-eqb}
 use lib.Dec.{eqb}
@@ -254,7 +254,7 @@ module _ (q : Row → Bool) where
 topmost : (own : Placed → ℕ) (number : ℕ) (q : Placed → Bool) (ps : List Placed) → every q ps ≡ false
     → ((n : ℕ) (p : Placed) → At n p ps → q p ≡ false → own p ≡ number) → ((n : ℕ) (p : Placed) → At n p ps → q p ≡ true → own p ≡ number → ⊥)
     → Topmost own number (first_failing q ps) ps
-topmost own number q ps e yes_here not_there =
+topmost _ number q ps e yes_here not_there =
     let f = first_fails q ps e in
     record { row = f.one; there = f.there; its_own = yes_here _ f.one f.there f.fails; above = λ i p a h. not_there i p a (f.before i p a h) }
 
@@ -329,7 +329,7 @@ module _ (ws : List ℕ) where
 
   pub no_rows : (time : Float) (os : List ℕ) → tick_number time [] ws os ≡ 1
   unfolding tick_number refusal_of
-  no_rows time os = refl
+  no_rows _ _ = refl
 
 -- ---- a column that names nothing is refused with 1, wherever its row stands and whether its block reads it or not
 reach_at : (m n : ℕ) (r : Row) (rs : List Row) → At n r rs → all_reach m rs ≡ true → in_reach (m + n) r ≡ true

@@ -2,9 +2,9 @@
 use Prim.Native.Nat.{ℕ, ◌+◌}
 use mathlib.Core.Path.{◌≡◌, refl}
 use mathlib.Core.Bool.{true}
-use mathlib.Core.List.{List, [], ◌∷◌, map}
+use mathlib.Core.List.{List, [], ◌∷◌, ◌++◌, map}
 use lib.Dec.{ltb}
-use lib.ListN.{drop}
+use lib.ListN.{take, drop}
 use Rattle.reals.proofs.Values.{both}
 use Rattle.blocks.specs.declared.block.Tick.{Tick}
 use Rattle.sheet.specs.Rows.{wide, placed, every}
@@ -40,7 +40,7 @@ unfed_rows k above [] ws e = refl
 unfed_rows k above (r ∷ rs) ws e =
     let (t, u) = both (unfed r) (every unfed rs) e in
     let own = unfed_alone r t k above _ in
-    let rest = unfed_rows k _ rs (drop (wide r) ws) u in
+    let rest = unfed_rows k (above ++ answers_of (feed k above (record { row = r; words = take (wide r) ws }))) rs (drop (wide r) ws) u in
     λ i. own i ∷ rest i
 
 -- so a sheet in which all columns do is as it was

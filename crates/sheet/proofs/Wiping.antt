@@ -1,8 +1,8 @@
 -- Demand 3 over a sheet: a row that a tick of the sheet wiped is what its block's history says from that tick on. Assumes nothing.
 use Prim.Native.Nat.{ℕ, zero, suc}
 use mathlib.Core.Path.{◌≡◌, refl, sym, ◌∙◌, ap}
-use mathlib.Core.List.{List, [], ◌∷◌, map}
-use lib.ListN.{drop}
+use mathlib.Core.List.{List, [], ◌∷◌, ◌++◌, map}
+use lib.ListN.{take, drop}
 use Rattle.dynamics.specs.Machine.{Machine, updates, words_after, run, left_after}
 use Rattle.dynamics.specs.History.{Account, Wiping, wiped}
 use Rattle.dynamics.proofs.Histories.{wiped_clean}
@@ -11,7 +11,7 @@ use Rattle.blocks.specs.Wiping.{account_of, SettingsF64}
 use Rattle.blocks.specs.declared.block.Tick.{Tick}
 use Rattle.blocks.proofs.Wiping as blocks
 use Rattle.sheet.specs.Rows.{wide, placed}
-use Rattle.sheet.specs.Sheet.{Fed, fed_below, tick_left, tick_answers}
+use Rattle.sheet.specs.Sheet.{Fed, answers_of, feed, fed_below, tick_left, tick_answers}
 use Rattle.sheet.specs.Single.{At, TicksSingly, shown_as, RunsSingly}
 use Rattle.sheet.specs.Wiping.{WipedRow, block_of, wiping_tick, received_since, seen_since, stretch_since, RowRetold, WipedAlike, ShowAlike}
 use Rattle.sheet.specs.declared.row.Row.{Row}
@@ -24,7 +24,7 @@ unfolding At placed fed_below
 fed_row k above zero q [] ws a = absurd a
 fed_row k above (suc n) q [] ws a = absurd a
 fed_row k above zero q (r ∷ rs) ws a = ap (λ (x : Fed). x.row) a
-fed_row k above (suc n) q (r ∷ rs) ws a = fed_row k _ n q rs (drop (wide r) ws) a
+fed_row k above (suc n) q (r ∷ rs) ws a = fed_row k (above ++ answers_of (feed k above (record { row = r; words = take (wide r) ws }))) n q rs (drop (wide r) ws) a
 
 module _ (x : WipedRow) where
   pub row_there : At x.place x.row.row x.rows

@@ -122,6 +122,7 @@ pub(crate) fn warned(walk: Walk, warning: bool) -> Walk
 }
 
 // Test 1 on the number of rows; then a survey of them.
+#[tactic(auto, unfolding(crate::specs::Walk::begun))]
 pub(crate) fn begun(rows: usize) -> Walk
     ensures { result ≡ begun rows }
 {

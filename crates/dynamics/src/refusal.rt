@@ -6,6 +6,7 @@ use crate::previous::{Previous, runs_back};
 use reals::is_finite;
 
 // Tests 2 and 3: the settings are accepted, the region has the state's length.
+#[tactic(auto, unfolding(crate::specs::Answer::form_refusal, crate::specs::Answer::refusal_of))]
 pub fn form_refusal(settings: bool, length: bool) -> u64
     ensures { result ≡ form_refusal settings length }
 {

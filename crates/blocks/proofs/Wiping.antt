@@ -1,6 +1,6 @@
 -- Demand 3 for the blocks that a tick can wipe, over the definitions that the public calls cite. Assumes nothing.
 use mathlib.Core.Path.{◌≡◌, refl, sym}
-use mathlib.Core.Bool.{true, false, true≢false}
+use mathlib.Core.Bool.{true, true≢false}
 use mathlib.Core.List.{List}
 use Prim.Native.Nat.{ℕ}
 use Rattle.dynamics.specs.Machine.{is_sound, decode_answer}

@@ -1,6 +1,6 @@
 -- Settings that are accepted are those that the published file works with. Assumes nothing.
 use mathlib.Core.Path.{◌≡◌, refl, sym}
-use mathlib.Core.Bool.{true, false, ◌&&◌, true≢false}
+use mathlib.Core.Bool.{true, ◌&&◌, true≢false}
 use denote.Floats.{passes, is_true}
 use lib.Dec.{T}
 use lib.Ieee.{Float, nan, inf, fin, lt, le, is_nan, round}

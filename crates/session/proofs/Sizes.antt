@@ -5,7 +5,6 @@ use mathlib.Core.List.{List, [], ◌∷◌}
 use mathlib.Core.Bool.{Bool, true, false, not}
 use borrow.Author.Tests.{ltb-true, ltb-false, lt-leb, le-leb}
 use lib.Dec.{T, leb, ltb}
-use lib.ListN.{length}
 use lib.Ieee.{binary64, fits, lt}
 use Rattle.reals.specs.Words.{nearest}
 use Rattle.reals.proofs.Words.{real_fits}

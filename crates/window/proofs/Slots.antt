@@ -1,5 +1,5 @@
 -- The ring of a finite delta over whole numbers: 2 * ⌈delta raised to 1e-5⌉ slots, kept between 2048 and 131072, and a state of more than 4110 words exactly where delta is above 1024. Assumes nothing.
-use Rattle.std.proofs.Common.{◌≡◌, ℕ, ◌+◌, ◌-◌, ◌*◌, ◌^◌, ◌<◌, ◌≤◌, Bool, true, false, cond, T, ltb, sym, refl, ap, ◌∙◌, suc-mul, le-div_iff_mul-le, arith, lit<, lit≤, ltb→lt, lt→ltb, ltb-false, ltb-true}
+use Rattle.std.proofs.Common.{◌≡◌, ℕ, ◌+◌, ◌*◌, ◌^◌, ◌<◌, ◌≤◌, Bool, true, false, cond, T, ltb, sym, refl, ap, ◌∙◌, suc-mul, le-div_iff_mul-le, arith, lit<, lit≤, ltb→lt, lt→ltb, ltb-false, ltb-true}
 use lib.Ieee.{Float, nan, inf, fin, binary64, up, down, round, lt, le, fits, to_unsigned}
 use lib.Ieee.Fits.{down_pos}
 use lib.Ieee.Exact.{HasValue}

@@ -10,7 +10,6 @@ use Rattle.blocks.specs.Block.{machine_of}
 use Rattle.blocks.specs.Decoded.{state_of, of_controller, of_average, of_accumulating, of_delay, of_hold, of_pulse}
 use Rattle.blocks.specs.declared.decoded.State.TheVariants as state
 use Rattle.blocks.proofs.Decoding.{carried, says}
-use borrow.Author.Rules.{rules}
 use Rattle.blocks.proofs.decode.Goals as goal
 
 pub returns-in-Pid : goal.returns-in-Pid

@@ -1,6 +1,5 @@
 -- `emit` is the chosen block's. Assumes nothing.
 use Rattle.blocks.specs.Block.{machine_of}
-use borrow.Author.Rules.{rules}
 use Rattle.blocks.proofs.emit.Goals as goal
 
 pub returns-in-Pid : goal.returns-in-Pid

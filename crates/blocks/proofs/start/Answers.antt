@@ -1,6 +1,5 @@
 -- `start` is the chosen block's. Assumes nothing.
 use Rattle.blocks.specs.Block.{machine_of}
-use borrow.Author.Rules.{rules}
 use Rattle.blocks.proofs.start.Goals as goal
 
 pub returns-in-Pid : goal.returns-in-Pid

@@ -1,7 +1,6 @@
 -- `decode` opens a region by the number of decoding. Assumes nothing.
 use native.Mathlib.Omega.{arith}
 use mathlib.Core.Path.{refl}
-use borrow.Author.Rules.{rules}
 use Rattle.dynamics.proofs.Steps.{decode_form, decode_then, decode_else}
 use Rattle.hold.proofs.Decoding.{bares}
 use Rattle.hold.proofs.decode.Goals as goal

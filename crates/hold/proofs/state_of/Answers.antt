@@ -1,5 +1,4 @@
 -- `state_of` reads each word at its place. Assumes nothing.
-use borrow.Author.Rules.{rules}
 use Rattle.hold.specs.Hold.{state_of}
 use Rattle.hold.proofs.state_of.Goals as goal
 

@@ -1,5 +1,4 @@
 -- `write` stores each word at its place. Assumes nothing.
-use borrow.Author.Rules.{rules}
 use Rattle.hold.specs.Hold.{words_of}
 use Rattle.hold.proofs.write.Goals as goal
 

@@ -1,5 +1,4 @@
 -- `settings_accepted` makes its tests, the limits by their bit patterns. Assumes nothing.
-use borrow.Author.Rules.{rules}
 use lib.Ieee.{of_bits, round}
 use Rattle.logical_variable_pulse.specs.LogicalVariablePulse.{settings_accepted}
 use Rattle.logical_variable_pulse.proofs.settings_accepted.Goals as goal

@@ -1,5 +1,4 @@
 -- `sound` is yes exactly if the region decodes. Assumes nothing.
-use borrow.Author.Rules.{rules}
 use Rattle.dynamics.proofs.Steps.{decode_number, sound_number}
 use Rattle.logical_variable_pulse.proofs.Decoding.{pulse}
 use Rattle.logical_variable_pulse.proofs.sound.Goals as goal

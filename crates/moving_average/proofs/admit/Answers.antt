@@ -1,7 +1,6 @@
 -- `admit` makes each test once, in the table's order. Assumes nothing.
 use native.Mathlib.Omega.{arith}
 use Rattle.moving_average.proofs.Decoding.{admit_form, admit_then, admit_else}
-use borrow.Author.Rules.{rules}
 use Rattle.moving_average.proofs.admit.Goals as goal
 
 pub returns-then-n-ne0 : goal.returns-then-n-ne0

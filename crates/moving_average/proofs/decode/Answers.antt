@@ -2,7 +2,6 @@
 use Rattle.dynamics.proofs.Opening.{decodes}
 use Rattle.moving_average.specs.MovingAverage.{state_of, machine}
 use Rattle.moving_average.proofs.Decoding.{decoded}
-use borrow.Author.Rules.{rules}
 use Rattle.moving_average.proofs.decode.Goals as goal
 
 pub returns : goal.returns

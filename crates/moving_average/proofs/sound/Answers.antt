@@ -1,6 +1,5 @@
 -- `sound` is yes exactly if the region decodes and the times of its ring are in order. Assumes nothing.
 use Rattle.moving_average.proofs.Decoding.{sound_else, order_asks, sound_then}
-use borrow.Author.Rules.{rules}
 use Rattle.moving_average.proofs.sound.Goals as goal
 
 pub returns-in_default : goal.returns-in_default

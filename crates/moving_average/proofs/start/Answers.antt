@@ -6,7 +6,6 @@ use native.Mathlib.Omega.{arith}
 use lib.ListN.{set}
 use Rattle.dynamics.specs.Previous.{unset}
 use Rattle.moving_average.proofs.Decoding.{start_form, start_then, has_six}
-use borrow.Author.Rules.{rules}
 use Rattle.moving_average.proofs.start.Goals as goal
 
 pub returns-then-refusal-ne0 : goal.returns-then-refusal-ne0

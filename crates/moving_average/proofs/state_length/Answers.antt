@@ -1,7 +1,6 @@
 -- `state_length` is the ring's, if delta is finite. Assumes nothing.
 use Rattle.dynamics.specs.Machine.{length_answer}
 use Rattle.moving_average.specs.MovingAverage.{machine_for}
-use borrow.Author.Rules.{rules}
 use Rattle.moving_average.proofs.state_length.Goals as goal
 
 pub returns : goal.returns

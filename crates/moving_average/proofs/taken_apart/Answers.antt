@@ -1,7 +1,6 @@
 -- `taken_apart` opens a region by the number of decoding. Assumes nothing.
 use native.Mathlib.Omega.{arith}
 use Rattle.moving_average.proofs.Decoding.{decode_form, decode_then, decode_else}
-use borrow.Author.Rules.{rules}
 use Rattle.moving_average.proofs.taken_apart.Goals as goal
 
 pub returns-then-n-ne0 : goal.returns-then-n-ne0

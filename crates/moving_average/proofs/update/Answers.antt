@@ -3,7 +3,6 @@ use Rattle.dynamics.proofs.Opening.{update_else}
 use Rattle.moving_average.specs.MovingAverage.{state_of, machine}
 use Rattle.moving_average.proofs.Decoding.{decoded}
 use Rattle.moving_average.proofs.Steps.{ring_stands, update_then}
-use borrow.Author.Rules.{rules}
 use Rattle.moving_average.proofs.update.Goals as goal
 
 pub returns-in_default : goal.returns-in_default

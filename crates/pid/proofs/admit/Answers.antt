@@ -1,7 +1,6 @@
 -- `admit` opens a region by the number of a tick. Assumes nothing.
 use native.Mathlib.Omega.{arith}
 use mathlib.Core.Path.{refl}
-use borrow.Author.Rules.{rules}
 use Rattle.dynamics.proofs.Steps.{admit_form, admit_else, admit_then}
 use Rattle.pid.proofs.Decoding.{controller}
 use Rattle.pid.proofs.admit.Goals as goal

@@ -1,5 +1,4 @@
 -- `emit` answers from the state before the tick. Assumes nothing.
-use borrow.Author.Rules.{rules}
 use Rattle.dynamics.proofs.Steps.{emit_else, emit_then}
 use Rattle.pid.proofs.Decoding.{controller}
 use Rattle.pid.proofs.Steps.{says, tells}

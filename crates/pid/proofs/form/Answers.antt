@@ -1,5 +1,4 @@
 -- `form` makes tests 2 and 3. Assumes nothing.
-use borrow.Author.Rules.{rules}
 use Rattle.pid.proofs.form.Goals as goal
 
 pub returns : goal.returns

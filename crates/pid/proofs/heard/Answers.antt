@@ -1,5 +1,4 @@
 -- `heard` reads the inputs. Assumes nothing.
-use borrow.Author.Rules.{rules}
 use Rattle.pid.specs.Pid.{heard}
 use Rattle.pid.proofs.heard.Goals as goal
 

@@ -1,7 +1,6 @@
 -- `start` writes the words of a fresh controller. Assumes nothing.
 use native.Mathlib.Omega.{arith}
 use mathlib.Core.Path.{refl, ap, ◌∙◌}
-use borrow.Author.Rules.{rules}
 use Rattle.dynamics.specs.Region.{stored}
 use Rattle.dynamics.proofs.Steps.{start_form, start_then}
 use Rattle.pid.specs.Pid.{words_of}

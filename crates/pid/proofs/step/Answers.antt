@@ -1,5 +1,4 @@
 -- `step` stores the state after the tick. Assumes nothing.
-use borrow.Author.Rules.{rules}
 use Rattle.pid.proofs.Steps.{goes_on}
 use Rattle.pid.proofs.step.Goals as goal
 

@@ -1,6 +1,5 @@
 -- `tick` answers from the state before the tick, and stores the one after it. Assumes nothing.
 use mathlib.Core.Path.{refl}
-use borrow.Author.Rules.{rules}
 use Rattle.dynamics.proofs.Steps.{tick_else, tick_then}
 use Rattle.pid.proofs.Decoding.{controller}
 use Rattle.pid.proofs.Steps.{says}

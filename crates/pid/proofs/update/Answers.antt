@@ -1,6 +1,5 @@
 -- `update` stores the state after the tick. Assumes nothing.
 use mathlib.Core.Path.{refl}
-use borrow.Author.Rules.{rules}
 use Rattle.dynamics.proofs.Steps.{update_else, update_then}
 use Rattle.pid.proofs.Decoding.{controller}
 use Rattle.pid.proofs.update.Goals as goal

@@ -1,5 +1,4 @@
 -- `run` is refused by its number, or runs. Assumes nothing.
-use borrow.Author.Rules.{rules}
 use Rattle.runs.proofs.Ending.{room_each, refused, accepted}
 use Rattle.runs.proofs.run.Goals as goal
 

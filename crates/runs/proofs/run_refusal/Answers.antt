@@ -1,5 +1,4 @@
 -- `run_refusal` is the number of a run: by the form of its words, and then by the state length. Assumes nothing.
-use borrow.Author.Rules.{rules}
 use borrow.Author.Tests.{eq-eqb, ne_eqb}
 use Rattle.runs.proofs.Ending.{no_ticks, no_room, by_length}
 use Rattle.runs.proofs.run_refusal.Goals as goal

@@ -1,6 +1,5 @@
 -- `run_ticks` is the chosen block's loop. Assumes nothing.
 use Rattle.blocks.specs.Block.{machine_of}
-use borrow.Author.Rules.{rules}
 use Rattle.runs.proofs.run_ticks.Goals as goal
 
 pub returns-in-Pid : goal.returns-in-Pid

@@ -1,6 +1,5 @@
 -- `decode` opens a region by the number of decoding. Assumes nothing.
 use native.Mathlib.Omega.{arith}
-use borrow.Author.Rules.{rules}
 use Rattle.dynamics.proofs.Steps.{decode_form, decode_then, decode_else}
 use Rattle.timer_accumulating.proofs.Decoding.{timer}
 use Rattle.timer_accumulating.proofs.decode.Goals as goal

@@ -1,6 +1,5 @@
 -- `tick` answers from the state after the tick, and stores it. Assumes nothing.
 use mathlib.Core.Path.{ap, ◌∙◌}
-use borrow.Author.Rules.{rules}
 use Rattle.dynamics.specs.Answer.{emitted}
 use Rattle.dynamics.proofs.Steps.{tick_else, tick_then}
 use Rattle.timer_accumulating.specs.TimerAccumulating.{outputs}

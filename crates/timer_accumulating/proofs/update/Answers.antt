@@ -1,5 +1,4 @@
 -- `update` stores the state after the tick. Assumes nothing.
-use borrow.Author.Rules.{rules}
 use Rattle.dynamics.proofs.Steps.{update_else, update_then}
 use Rattle.timer_accumulating.proofs.Decoding.{timer}
 use Rattle.timer_accumulating.proofs.update.Goals as goal

@@ -1,6 +1,5 @@
 -- `admit` opens a region by the number of a tick. Assumes nothing.
 use native.Mathlib.Omega.{arith}
-use borrow.Author.Rules.{rules}
 use Rattle.dynamics.proofs.Steps.{admit_form, admit_else, admit_then}
 use Rattle.true_delay.proofs.Decoding.{timer}
 use Rattle.true_delay.proofs.admit.Goals as goal

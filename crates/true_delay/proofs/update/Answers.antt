@@ -1,5 +1,4 @@
 -- `update` stores the state after the tick. Assumes nothing.
-use borrow.Author.Rules.{rules}
 use Rattle.dynamics.proofs.Steps.{update_else, update_then}
 use Rattle.true_delay.proofs.Decoding.{timer}
 use Rattle.true_delay.proofs.update.Goals as goal

@@ -1,5 +1,4 @@
 -- `decode` is that of a hold with these settings. Assumes nothing.
-use borrow.Author.Rules.{rules}
 use Rattle.hold.proofs.Decoding.{decoded_alike}
 use Rattle.true_false_hold.specs.TrueFalseHold.{settings_accepted, advance}
 use Rattle.true_false_hold.proofs.decode.Goals as goal

@@ -1,6 +1,5 @@
 -- `emit` answers from the state after the tick. Assumes nothing.
 use mathlib.Core.Path.{ap, ◌∙◌}
-use borrow.Author.Rules.{rules}
 use Rattle.dynamics.specs.Answer.{emitted}
 use Rattle.dynamics.proofs.Steps.{emit_else, emit_then}
 use Rattle.hold.specs.Hold.{outputs}

@@ -1,5 +1,4 @@
 -- `settings_accepted` asks that both durations are finite. Assumes nothing.
-use borrow.Author.Rules.{rules}
 use Rattle.true_false_hold.proofs.settings_accepted.Goals as goal
 
 pub returns : goal.returns

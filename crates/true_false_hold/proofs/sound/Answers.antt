@@ -1,5 +1,4 @@
 -- `sound` is yes exactly if the region decodes. Assumes nothing.
-use borrow.Author.Rules.{rules}
 use Rattle.dynamics.proofs.Steps.{decode_number, sound_number}
 use Rattle.true_false_hold.proofs.Decoding.{hold}
 use Rattle.true_false_hold.proofs.sound.Goals as goal

@@ -1,5 +1,4 @@
 -- `update` stores the state after the tick. Assumes nothing.
-use borrow.Author.Rules.{rules}
 use Rattle.dynamics.proofs.Steps.{update_else, update_then}
 use Rattle.hold.proofs.Decoding.{admitted_alike}
 use Rattle.true_false_hold.specs.TrueFalseHold.{settings_accepted, advance}

@@ -1,5 +1,4 @@
 -- `decode` is that of a hold with these settings. Assumes nothing.
-use borrow.Author.Rules.{rules}
 use Rattle.hold.proofs.Decoding.{decoded_alike}
 use Rattle.true_hold_with_reset.specs.TrueHoldWithReset.{settings_accepted, advance}
 use Rattle.true_hold_with_reset.proofs.decode.Goals as goal

@@ -1,5 +1,4 @@
 -- `start` is that of a hold with these settings. Assumes nothing.
-use borrow.Author.Rules.{rules}
 use Rattle.hold.proofs.Decoding.{started_alike}
 use Rattle.true_hold_with_reset.specs.TrueHoldWithReset.{settings_accepted, advance}
 use Rattle.true_hold_with_reset.proofs.start.Goals as goal

@@ -1,5 +1,4 @@
 -- `state_length` is the block's, if its settings are accepted. Assumes nothing.
-use borrow.Author.Rules.{rules}
 use Rattle.dynamics.specs.Machine.{length_answer}
 use Rattle.dynamics.specs.Stepped.{stepped_machine}
 use Rattle.true_hold_with_reset.proofs.state_length.Goals as goal

@@ -1,5 +1,4 @@
 -- `block::answer_words` hands out the outputs that the chosen block has. Assumes nothing.
-use borrow.Author.Rules.{rules}
 use Rattle.blocks.proofs.block.answer_words.Goals as goal
 
 pub returns-in-Pid : goal.returns-in-Pid

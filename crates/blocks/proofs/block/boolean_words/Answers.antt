@@ -1,5 +1,4 @@
 -- `block::boolean_words` has the boolean output. Assumes nothing.
-use borrow.Author.Rules.{rules}
 use Rattle.blocks.proofs.block.boolean_words.Goals as goal
 
 pub returns : goal.returns

@@ -1,5 +1,4 @@
 -- `block::both_words` has both outputs. Assumes nothing.
-use borrow.Author.Rules.{rules}
 use Rattle.blocks.proofs.block.both_words.Goals as goal
 
 pub returns : goal.returns

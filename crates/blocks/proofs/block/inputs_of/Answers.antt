@@ -1,7 +1,6 @@
 -- `inputs_of` reads the first three words. Assumes nothing.
 use Rattle.blocks.specs.Block.{inputs_of}
 use mathlib.Core.Path.{refl}
-use borrow.Author.Rules.{rules}
 use Rattle.blocks.proofs.block.inputs_of.Goals as goal
 
 pub returns : goal.returns

@@ -1,5 +1,4 @@
 -- `block::real_words` has the real output. Assumes nothing.
-use borrow.Author.Rules.{rules}
 use Rattle.blocks.proofs.block.real_words.Goals as goal
 
 pub returns : goal.returns

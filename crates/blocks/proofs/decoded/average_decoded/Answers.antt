@@ -1,5 +1,4 @@
 -- What the moving average says of a region. Assumes nothing.
-use borrow.Author.Rules.{rules}
 use Rattle.blocks.proofs.decoded.average_decoded.Goals as goal
 
 pub returns-in-State : goal.returns-in-State

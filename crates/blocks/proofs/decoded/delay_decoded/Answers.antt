@@ -1,5 +1,4 @@
 -- What the delay says of a region. Assumes nothing.
-use borrow.Author.Rules.{rules}
 use Rattle.blocks.proofs.decoded.delay_decoded.Goals as goal
 
 pub returns-in-State : goal.returns-in-State

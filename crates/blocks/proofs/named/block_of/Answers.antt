@@ -1,7 +1,6 @@
 -- `block_of` chooses by the number. Assumes nothing.
 use Rattle.blocks.specs.Named.{named_by}
 use borrow.Author.Tests.{ne_eqb}
-use borrow.Author.Rules.{rules}
 use Rattle.blocks.proofs.named.block_of.Goals as goal
 
 pub returns-in-0 : goal.returns-in-0

@@ -1,5 +1,4 @@
 -- `config_of` reads the settings. Assumes nothing.
-use borrow.Author.Rules.{rules}
 use Rattle.blocks.specs.Named.{config_of}
 use Rattle.blocks.proofs.named.config_of.Goals as goal
 

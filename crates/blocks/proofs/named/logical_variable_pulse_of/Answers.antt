@@ -1,6 +1,5 @@
 -- `logical_variable_pulse_of` names the block where the words are its settings. Assumes nothing.
 use borrow.Author.Tests.{ne_eqb}
-use borrow.Author.Rules.{rules}
 use Rattle.blocks.proofs.named.logical_variable_pulse_of.Goals as goal
 
 pub returns-then-settings-eq3 : goal.returns-then-settings-eq3

@@ -1,6 +1,5 @@
 -- `moving_average_of` names the block where the words are its settings. Assumes nothing.
 use borrow.Author.Tests.{ne_eqb}
-use borrow.Author.Rules.{rules}
 use Rattle.blocks.proofs.named.moving_average_of.Goals as goal
 
 pub returns-then-settings-eq1 : goal.returns-then-settings-eq1

@@ -1,6 +1,5 @@
 -- `names_controller` tells settings by their number and type. Assumes nothing.
 use Rattle.blocks.specs.Named.{names_controller}
-use borrow.Author.Rules.{rules}
 use Rattle.blocks.proofs.named.names_controller.Goals as goal
 
 pub returns : goal.returns

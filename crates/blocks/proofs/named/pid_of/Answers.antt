@@ -1,5 +1,4 @@
 -- `pid_of` names the controller where the words are its settings. Assumes nothing.
-use borrow.Author.Rules.{rules}
 use Rattle.blocks.proofs.named.pid_of.Goals as goal
 
 pub returns-then-names_controller : goal.returns-then-names_controller

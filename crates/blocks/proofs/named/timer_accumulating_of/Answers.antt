@@ -1,6 +1,5 @@
 -- `timer_accumulating_of` names the block where the words are its settings. Assumes nothing.
 use borrow.Author.Tests.{ne_eqb}
-use borrow.Author.Rules.{rules}
 use Rattle.blocks.proofs.named.timer_accumulating_of.Goals as goal
 
 pub returns-then-settings-eq1 : goal.returns-then-settings-eq1

@@ -1,6 +1,5 @@
 -- `true_delay_of` names the block where the words are its settings. Assumes nothing.
 use borrow.Author.Tests.{ne_eqb}
-use borrow.Author.Rules.{rules}
 use Rattle.blocks.proofs.named.true_delay_of.Goals as goal
 
 pub returns-then-settings-eq2 : goal.returns-then-settings-eq2

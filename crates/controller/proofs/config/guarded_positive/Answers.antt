@@ -1,6 +1,5 @@
 -- `guarded_positive` raises to the least that is allowed, by its bit pattern. Assumes nothing.
 use lib.Ieee.{of_bits, round, mul}
-use borrow.Author.Rules.{rules}
 use Rattle.controller.specs.Settings.{effective, least, eps}
 use Rattle.controller.proofs.config.guarded_positive.Goals as goal
 

@@ -1,5 +1,4 @@
 -- `settings_accepted` tests each number. Assumes nothing.
-use borrow.Author.Rules.{rules}
 use Rattle.controller.specs.Settings.{settings_accepted}
 use Rattle.controller.proofs.config.settings_accepted.Goals as goal
 

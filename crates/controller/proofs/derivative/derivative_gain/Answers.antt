@@ -1,5 +1,4 @@
 -- `derivative_gain` is k * td. Assumes nothing.
-use borrow.Author.Rules.{rules}
 use Rattle.controller.specs.Settings.{derivative_gain}
 use Rattle.controller.proofs.derivative.derivative_gain.Goals as goal
 

@@ -1,7 +1,6 @@
 -- `derivative_output` is the derivative term, case by case. Assumes nothing.
 use mathlib.Core.Path.{sym}
 use lib.Ieee.{of_bits}
-use borrow.Author.Rules.{rules}
 use Rattle.controller.specs.Recurrence.{derivative}
 use Rattle.controller.proofs.derivative.derivative_output.Goals as goal
 

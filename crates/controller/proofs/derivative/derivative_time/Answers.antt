@@ -1,5 +1,4 @@
 -- `derivative_time` is td / nd. Assumes nothing.
-use borrow.Author.Rules.{rules}
 use Rattle.controller.specs.Settings.{derivative_time}
 use Rattle.controller.proofs.derivative.derivative_time.Goals as goal
 

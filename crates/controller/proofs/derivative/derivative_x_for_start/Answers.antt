@@ -1,7 +1,6 @@
 -- `derivative_x_for_start` is the filter before the first tick. Assumes nothing.
 use mathlib.Core.Path.{sym}
 use lib.Ieee.{of_bits, round}
-use borrow.Author.Rules.{rules}
 use Rattle.controller.specs.Settings.{eps}
 use Rattle.controller.specs.Recurrence.{filter_at_start}
 use Rattle.controller.proofs.derivative.derivative_x_for_start.Goals as goal

@@ -1,6 +1,5 @@
 -- `filter_before` is the stored value, but on the first tick. Assumes nothing.
 use mathlib.Core.Path.{sym}
-use borrow.Author.Rules.{rules}
 use Rattle.controller.specs.Recurrence.{filter_before}
 use Rattle.controller.proofs.derivative.filter_before.Goals as goal
 

@@ -1,7 +1,6 @@
 -- `next_filter` is one step of the implicit filter. Assumes nothing.
 use mathlib.Core.Path.{sym}
 use lib.Ieee.{of_bits}
-use borrow.Author.Rules.{rules}
 use Rattle.controller.specs.Recurrence.{next_filter}
 use Rattle.controller.proofs.derivative.next_filter.Goals as goal
 

@@ -1,7 +1,6 @@
 -- `integral_output` is the integrator, if there is one. Assumes nothing.
 use mathlib.Core.Path.{sym}
 use lib.Ieee.{of_bits}
-use borrow.Author.Rules.{rules}
 use Rattle.controller.specs.Recurrence.{integral}
 use Rattle.controller.proofs.integral.integral_output.Goals as goal
 

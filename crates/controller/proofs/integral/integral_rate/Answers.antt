@@ -1,5 +1,4 @@
 -- `integral_rate` is its formula. Assumes nothing.
-use borrow.Author.Rules.{rules}
 use Rattle.controller.specs.Recurrence.{integral_rate}
 use Rattle.controller.proofs.integral.integral_rate.Goals as goal
 

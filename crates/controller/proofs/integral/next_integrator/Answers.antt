@@ -1,7 +1,6 @@
 -- `next_integrator` is solved back on a rising trigger, else accumulated. Assumes nothing.
 use mathlib.Core.Path.{sym}
 use lib.Ieee.{of_bits}
-use borrow.Author.Rules.{rules}
 use Rattle.controller.specs.Recurrence.{next_integrator, solved_back}
 use Rattle.controller.proofs.integral.next_integrator.Goals as goal
 

@@ -1,5 +1,4 @@
 -- `limit` clamps by its rule. Assumes nothing.
-use borrow.Author.Rules.{rules}
 use Rattle.controller.specs.Limit.{limit}
 use Rattle.controller.proofs.limit.limit.Goals as goal
 

@@ -1,5 +1,4 @@
 -- `current_terms` has the terms in their order. Assumes nothing.
-use borrow.Author.Rules.{rules}
 use Rattle.controller.specs.Recurrence.{proportional, terms_of}
 use Rattle.controller.proofs.recurrence.current_terms.Goals as goal
 

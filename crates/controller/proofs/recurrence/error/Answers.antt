@@ -1,5 +1,4 @@
 -- `error` is its formula. Assumes nothing.
-use borrow.Author.Rules.{rules}
 use Rattle.controller.specs.Recurrence.{error}
 use Rattle.controller.proofs.recurrence.error.Goals as goal
 

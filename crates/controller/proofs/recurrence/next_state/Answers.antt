@@ -1,5 +1,4 @@
 -- `next_state` is the state after the tick, field by field. Assumes nothing.
-use borrow.Author.Rules.{rules}
 use Rattle.controller.specs.Recurrence.{state_after}
 use Rattle.controller.proofs.recurrence.next_state.Goals as goal
 

@@ -1,5 +1,4 @@
 -- `call::boolean_answer` has the real 0.0. Assumes nothing.
-use borrow.Author.Rules.{rules}
 use lib.Ieee.{of_bits}
 use Rattle.dynamics.proofs.call.boolean_answer.Goals as goal
 

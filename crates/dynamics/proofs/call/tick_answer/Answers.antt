@@ -1,5 +1,4 @@
 -- `call::tick_answer` fills in its outputs. Assumes nothing.
-use borrow.Author.Rules.{rules}
 use Rattle.dynamics.proofs.call.tick_answer.Goals as goal
 
 pub returns : goal.returns

@@ -1,5 +1,4 @@
 -- `call::warning_answer` has the outputs 0.0 and false. Assumes nothing.
-use borrow.Author.Rules.{rules}
 use lib.Ieee.{of_bits}
 use Rattle.dynamics.proofs.call.warning_answer.Goals as goal
 

@@ -1,5 +1,4 @@
 -- `previous::previous_of` meets its contract: the marker, or the time that the word stands for. Assumes nothing.
-use borrow.Author.Rules.{rules}
 use borrow.Author.Tests.{eq-eqb, ne_eqb}
 use Rattle.dynamics.specs.Previous.{previous_of}
 use Rattle.dynamics.proofs.previous.previous_of.Goals as goal

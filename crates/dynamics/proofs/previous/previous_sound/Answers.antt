@@ -1,5 +1,4 @@
 -- `previous::previous_sound` meets its contract: by cases. Assumes nothing.
-use borrow.Author.Rules.{rules}
 use Rattle.dynamics.proofs.previous.previous_sound.Goals as goal
 
 pub returns-in-At : goal.returns-in-At

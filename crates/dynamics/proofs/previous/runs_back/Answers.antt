@@ -1,5 +1,4 @@
 -- `previous::runs_back` meets its contract: by cases. Assumes nothing.
-use borrow.Author.Rules.{rules}
 use Rattle.dynamics.proofs.previous.runs_back.Goals as goal
 
 pub returns-in-At : goal.returns-in-At

@@ -1,5 +1,4 @@
 -- `previous::tick_dt` meets its contract: by cases. Assumes nothing.
-use borrow.Author.Rules.{rules}
 use lib.Ieee.{of_bits}
 use Rattle.dynamics.proofs.previous.tick_dt.Goals as goal
 

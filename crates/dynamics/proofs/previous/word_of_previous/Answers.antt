@@ -1,5 +1,4 @@
 -- `previous::word_of_previous` meets its contract: by cases. Assumes nothing.
-use borrow.Author.Rules.{rules}
 use Rattle.dynamics.proofs.previous.word_of_previous.Goals as goal
 
 pub returns-in-At : goal.returns-in-At

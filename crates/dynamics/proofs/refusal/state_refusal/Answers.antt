@@ -1,7 +1,6 @@
 -- `refusal::state_refusal` gives the number of the first test that fails. Assumes nothing.
 use mathlib.Core.Path.{refl, sym, ap, ◌∙◌}
 use mathlib.Core.Bool.{not}
-use borrow.Author.Rules.{rules}
 use borrow.Author.Tests.{not-true, not-false}
 use Rattle.dynamics.specs.Answer.{later_refusal}
 use Rattle.dynamics.proofs.Accepted.{refused_6, refused_7, refused_none}

@@ -1,6 +1,5 @@
 -- `refusal::time_refusal` gives the number of the first test that fails. Assumes nothing.
 use mathlib.Core.Path.{refl, sym, ◌∙◌}
-use borrow.Author.Rules.{rules}
 use borrow.Author.Tests.{not-true, not-false}
 use Rattle.dynamics.specs.Answer.{later_refusal, time_refusal}
 use Rattle.dynamics.proofs.Accepted.{refused_5}

@@ -1,6 +1,5 @@
 -- `region::flag_at` reads the word there. Assumes nothing.
 use mathlib.Core.Path.{ap, ◌∙◌}
-use borrow.Author.Rules.{rules}
 use Rattle.reals.specs.Words.{flag_of}
 use Rattle.dynamics.proofs.region.flag_at.Goals as goal
 

@@ -1,6 +1,5 @@
 -- `region::previous_at` reads the word there. Assumes nothing.
 use mathlib.Core.Path.{ap, ◌∙◌}
-use borrow.Author.Rules.{rules}
 use Rattle.dynamics.specs.Previous.{previous_of}
 use Rattle.dynamics.proofs.region.previous_at.Goals as goal
 

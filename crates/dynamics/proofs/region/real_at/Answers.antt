@@ -1,6 +1,5 @@
 -- `region::real_at` reads the word there. Assumes nothing.
 use mathlib.Core.Path.{ap, ◌∙◌}
-use borrow.Author.Rules.{rules}
 use Rattle.reals.specs.Words.{real_of}
 use Rattle.dynamics.proofs.region.real_at.Goals as goal
 

@@ -1,11 +1,9 @@
 -- `region::store` meets its contract. The invariant: the words below `i` are copied, the others are the region's own. Assumes nothing.
-use Prim.Native.Nat.{◌≤◌, ◌-◌}
 use native.Mathlib.Omega.{arith}
 use borrow.Author.Rules.{rules}
 use borrow.Author.Tests.{eq-eqb, ne_eqb}
-use mathlib.Core.Path.{◌≡◌, refl, ◌∙◌}
-use mathlib.Core.List.{◌++◌}
-use lib.ListN.{length, take, drop, length-set}
+use mathlib.Core.Path.{refl, ◌∙◌}
+use lib.ListN.{length-set}
 use Rattle.dynamics.proofs.Copies.{copied_more, copied_all}
 use Rattle.dynamics.proofs.region.store.Goals as goal
 

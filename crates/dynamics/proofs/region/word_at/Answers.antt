@@ -1,7 +1,6 @@
 -- `region::word_at` meets its contract: past the end it reads 0. Assumes nothing.
 use mathlib.Core.Path.{sym}
 use lib.ListN.{get_or-eq_default}
-use borrow.Author.Rules.{rules}
 use Rattle.dynamics.proofs.region.word_at.Goals as goal
 
 pub returns-else-place-region : goal.returns-else-place-region

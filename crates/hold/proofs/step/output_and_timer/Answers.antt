@@ -1,6 +1,5 @@
 -- `step::output_and_timer` lets an output last for a least time. Assumes nothing.
 use mathlib.Core.Path.{sym, ◌∙◌}
-use borrow.Author.Rules.{rules}
 use lib.Ieee.{of_bits}
 use Rattle.hold.proofs.Cases.{first, agrees, flipped, stays}
 use Rattle.hold.proofs.step.output_and_timer.Goals as goal

@@ -1,6 +1,5 @@
 -- `first::first_line` meets its contract: the name is the first item, and the settings are those after it. Assumes nothing.
 use mathlib.Core.Path.{sym, ◌∙◌}
-use borrow.Author.Rules.{rules}
 use borrow.Author.Tests.{not-true, not-false}
 use native.Mathlib.Omega.{arith}
 use Prim.Native.Nat.{◌+◌}

@@ -3,7 +3,6 @@ use Prim.Native.Nat.{ℕ, zero, suc}
 use mathlib.Core.Path.{◌≡◌, refl, sym, ◌∙◌}
 use mathlib.Core.Bool.{true, false}
 use mathlib.Core.List.{List, ◌∷◌}
-use borrow.Author.Rules.{rules}
 use lib.ListN.{drop}
 use Rattle.text.specs.Bytes.{same_list}
 use Rattle.lines.specs.Forms.{forms, form_at, rows_before, number_for}

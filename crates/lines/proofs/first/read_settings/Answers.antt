@@ -1,5 +1,4 @@
 -- `first::read_settings` meets its contract: each number's row of the table. Assumes nothing.
-use borrow.Author.Rules.{rules}
 use Rattle.lines.proofs.Naming.{no_settings}
 use Rattle.lines.proofs.first.read_settings.Goals as goal
 

@@ -1,6 +1,5 @@
 -- `first::settings_of` meets its contract: each number's row of the table. Assumes nothing.
 use mathlib.Core.Path.{sym, ap}
-use borrow.Author.Rules.{rules}
 use lib.ListN.{length}
 use Rattle.lines.proofs.Naming.{no_settings}
 use Rattle.lines.proofs.first.settings_of.Goals as goal

@@ -1,5 +1,4 @@
 -- `later::later_line` meets its contract: the tick that the words of the line say. Assumes nothing.
-use borrow.Author.Rules.{rules}
 use Rattle.lines.proofs.Ticking.{later_heard}
 use Rattle.lines.proofs.later.later_line.Goals as goal
 

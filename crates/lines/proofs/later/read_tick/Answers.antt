@@ -1,6 +1,5 @@
 -- `later::read_tick` meets its contract: each block's row of the table, for a line that is not too long. Assumes nothing.
 use mathlib.Core.Path.{ap, ◌∙◌}
-use borrow.Author.Rules.{rules}
 use Rattle.lines.specs.Values.{laid_out}
 use Rattle.lines.proofs.Items.{items_short}
 use Rattle.lines.proofs.Ticking.{tick_long}

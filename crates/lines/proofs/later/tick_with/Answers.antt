@@ -1,5 +1,4 @@
 -- `later::tick_with` meets its contract: word by word. Assumes nothing.
-use borrow.Author.Rules.{rules}
 use Rattle.lines.proofs.later.tick_with.Goals as goal
 
 pub returns : goal.returns

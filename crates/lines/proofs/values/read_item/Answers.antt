@@ -1,6 +1,5 @@
 -- `values::read_item` meets its contract: each arm is a case of `item_of`. Assumes nothing.
 use borrow.Author.Tests.{ne_eqb}
-use borrow.Author.Rules.{rules}
 use Rattle.lines.specs.Values.{item_of}
 use Rattle.lines.proofs.values.read_item.Goals as goal
 

@@ -1,11 +1,10 @@
 -- `values::read_values` meets its contract: what is left, laid out behind the words so far, is what all of it says. Assumes nothing.
-use Prim.Native.Nat.{◌-◌, ◌≤◌}
-use mathlib.Core.Path.{◌≡◌, sym, ◌∙◌}
+use mathlib.Core.Path.{sym, ◌∙◌}
 use borrow.Author.Rules.{rules}
 use native.Mathlib.Omega.{arith}
-use lib.ListN.{length, drop, length-set}
-use Rattle.lines.specs.Values.{items_from, words_said, laid_out}
-use Rattle.lines.proofs.Words.{filled, filled_zeros, filled_short, filled_word, filled_bad, filled_over, filled_end}
+use lib.ListN.{length-set}
+use Rattle.lines.specs.Values.{items_from}
+use Rattle.lines.proofs.Words.{filled_zeros, filled_short, filled_word, filled_bad, filled_over, filled_end}
 use Rattle.lines.proofs.values.read_values.Goals as goal
 
 pub loop-j-init : goal.loop-j-init

@@ -1,11 +1,9 @@
 -- `values::read_values` meets its contract: what is left, laid out behind the words so far, is what all of it says. Assumes nothing.
 use Prim.Native.Nat.{◌-◌, ◌≤◌}
-use mathlib.Core.Path.{◌≡◌, sym, ◌∙◌}
-use borrow.Author.Rules.{rules}
-use native.Mathlib.Omega.{arith}
-use lib.ListN.{length, drop, length-set}
+use mathlib.Core.Path.{◌≡◌}
+use lib.ListN.{length, drop}
 use Rattle.lines.specs.Values.{items_from, words_said, laid_out}
-use Rattle.lines.proofs.Words.{filled, filled_zeros, filled_short, filled_word, filled_bad, filled_over, filled_end}
+use Rattle.lines.proofs.Words.{filled}
 use Rattle.lines.proofs.values.read_values.Given as goal
 
 abbrev pub invariant-loop-j : goal.invariant-loop-j

@@ -1,5 +1,4 @@
 -- `state::state_of` reads each word at its place. Assumes nothing.
-use borrow.Author.Rules.{rules}
 use Rattle.logical_variable_pulse.specs.LogicalVariablePulse.{state_of}
 use Rattle.logical_variable_pulse.proofs.state.state_of.Goals as goal
 

@@ -1,5 +1,4 @@
 -- `state::write` stores each word at its place. Assumes nothing.
-use borrow.Author.Rules.{rules}
 use Rattle.logical_variable_pulse.specs.LogicalVariablePulse.{words_of}
 use Rattle.logical_variable_pulse.proofs.state.write.Goals as goal
 

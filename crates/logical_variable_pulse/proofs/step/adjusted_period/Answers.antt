@@ -1,5 +1,4 @@
 -- `step::adjusted_period` raises to 2.02 times the minimum hold, by its bit pattern. Assumes nothing.
-use borrow.Author.Rules.{rules}
 use lib.Ieee.{of_bits, round}
 use Rattle.logical_variable_pulse.specs.LogicalVariablePulse.{adjusted_period}
 use Rattle.logical_variable_pulse.proofs.step.adjusted_period.Goals as goal

@@ -1,5 +1,4 @@
 -- `step::buildings_round_six` meets its contract. Assumes nothing.
-use borrow.Author.Rules.{rules}
 use lib.Ieee.{of_bits, round}
 use Rattle.logical_variable_pulse.proofs.Cases.{rounds_down, rounds_up}
 use Rattle.logical_variable_pulse.proofs.step.buildings_round_six.Goals as goal

@@ -1,5 +1,4 @@
 -- `step::cycle_output` meets its contract. Assumes nothing.
-use borrow.Author.Rules.{rules}
 use lib.Ieee.{of_bits}
 use Rattle.logical_variable_pulse.proofs.Cases.{no_time, no_share, whole_share, share}
 use Rattle.logical_variable_pulse.proofs.step.cycle_output.Goals as goal

@@ -1,5 +1,4 @@
 -- `step::next_t0` meets its contract. Assumes nothing.
-use borrow.Author.Rules.{rules}
 use Rattle.logical_variable_pulse.proofs.Cases.{begins, goes_on}
 use Rattle.logical_variable_pulse.proofs.step.next_t0.Goals as goal
 

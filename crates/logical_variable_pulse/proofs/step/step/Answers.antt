@@ -1,5 +1,4 @@
 -- `step::step` is one tick. Assumes nothing.
-use borrow.Author.Rules.{rules}
 use Rattle.logical_variable_pulse.specs.LogicalVariablePulse.{next, advance}
 use Rattle.logical_variable_pulse.proofs.step.step.Goals as goal
 

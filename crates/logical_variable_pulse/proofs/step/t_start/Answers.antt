@@ -1,5 +1,4 @@
 -- `step::t_start` meets its contract. Assumes nothing.
-use borrow.Author.Rules.{rules}
 use Rattle.logical_variable_pulse.specs.LogicalVariablePulse.{t_start}
 use Rattle.logical_variable_pulse.proofs.step.t_start.Goals as goal
 

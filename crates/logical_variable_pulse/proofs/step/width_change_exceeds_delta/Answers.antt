@@ -1,5 +1,4 @@
 -- `step::width_change_exceeds_delta` meets its contract, by its comparison. Assumes nothing.
-use borrow.Author.Rules.{rules}
 use Rattle.logical_variable_pulse.specs.LogicalVariablePulse.{width_changed}
 use Rattle.logical_variable_pulse.proofs.step.width_change_exceeds_delta.Goals as goal
 

@@ -1,6 +1,5 @@
 -- `average::advance` prunes, finds the place and writes. Assumes nothing.
 use Rattle.moving_average.proofs.Steps.{all_holds, ring_holds, place_fits, advanced}
-use borrow.Author.Rules.{rules}
 use Rattle.moving_average.proofs.average.advance.Goals as goal
 
 pub prune-ring-requires : goal.prune-ring-requires

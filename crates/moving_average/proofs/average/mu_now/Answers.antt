@@ -1,6 +1,5 @@
 -- `average::mu_now` accumulates over the gap. Assumes nothing.
 use Rattle.moving_average.specs.MovingAverage.{mu_now}
-use borrow.Author.Rules.{rules}
 use Rattle.moving_average.proofs.average.mu_now.Goals as goal
 
 pub returns : goal.returns

@@ -1,6 +1,5 @@
 -- `average::output` is the rise over the window by its divisor. Assumes nothing.
 use Rattle.moving_average.specs.MovingAverage.{output_of}
-use borrow.Author.Rules.{rules}
 use Rattle.moving_average.proofs.average.output.Goals as goal
 
 pub mu_at-mu_del-requires : goal.mu_at-mu_del-requires

@@ -1,5 +1,4 @@
 -- `average::start_word` is written on the first tick alone. Assumes nothing.
-use borrow.Author.Rules.{rules}
 use Rattle.moving_average.proofs.average.start_word.Goals as goal
 
 pub returns-then-first : goal.returns-then-first

@@ -1,6 +1,5 @@
 -- `average::t_start` is this tick on the first. Assumes nothing.
 use Rattle.moving_average.specs.MovingAverage.{start_of}
-use borrow.Author.Rules.{rules}
 use Rattle.moving_average.proofs.average.t_start.Goals as goal
 
 pub returns-then-is_first_tick : goal.returns-then-is_first_tick

@@ -1,8 +1,6 @@
 -- `order::climb` stops at the first time that is below the one before. Assumes nothing.
 use Prim.Native.Nat.{◌-◌}
-use native.Mathlib.Omega.{arith}
-use lib.Ieee.{div, of_bits}
-use Rattle.window.proofs.Climbs.{Left, left_all, left_none, left_on, left_off}
+use Rattle.window.proofs.Climbs.{Left}
 use Rattle.moving_average.specs.Ring.{slot_time}
 use Rattle.moving_average.proofs.order.climb.Given as goal
 

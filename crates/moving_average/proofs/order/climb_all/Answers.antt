@@ -1,6 +1,5 @@
 -- `order::climb_all` walks one stretch, or two where the points run past the last slot. Assumes nothing.
 use Rattle.moving_average.proofs.Stretches.{straight, turned}
-use borrow.Author.Rules.{rules}
 use Rattle.moving_average.proofs.order.climb_all.Goals as goal
 
 pub returns-then-end-ring : goal.returns-then-end-ring

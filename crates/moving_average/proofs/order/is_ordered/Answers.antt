@@ -1,6 +1,5 @@
 -- `order::is_ordered` meets its contract: by cases. Assumes nothing.
 use Rattle.window.proofs.Climbs.{unset_ordered}
-use borrow.Author.Rules.{rules}
 use Rattle.moving_average.proofs.order.is_ordered.Goals as goal
 
 pub ordered_to-requires : goal.ordered_to-requires

@@ -3,7 +3,6 @@ use mathlib.Core.Path.{sym}
 use native.Mathlib.Omega.{arith}
 use borrow.Author.Tests.{not-true, not-false}
 use Rattle.window.proofs.Climbs.{none_walked, walk_else, walk_then}
-use borrow.Author.Rules.{rules}
 use Rattle.moving_average.proofs.order.ordered_to.Goals as goal
 
 pub returns-then-count-eq0 : goal.returns-then-count-eq0

@@ -2,7 +2,6 @@
 use native.Mathlib.Omega.{arith}
 use Rattle.moving_average.specs.Ring.{mu_place}
 use Rattle.moving_average.proofs.Places.{slot_within}
-use borrow.Author.Rules.{rules}
 use Rattle.moving_average.proofs.ring.mu_place.Goals as goal
 
 pub overflow_add-result-2 : goal.overflow_add-result-2

@@ -2,7 +2,6 @@
 use native.Mathlib.Omega.{arith}
 use Rattle.moving_average.specs.Ring.{point_at}
 use Rattle.moving_average.proofs.Places.{mu_within}
-use borrow.Author.Rules.{rules}
 use Rattle.moving_average.proofs.ring.point_at.Goals as goal
 
 pub offset_bounds-region-at : goal.offset_bounds-region-at

@@ -1,6 +1,5 @@
 -- `ring::slot` turns past the end by taking the capacity away. Assumes nothing.
 use Rattle.moving_average.proofs.Places.{slot_straight, slot_turned}
-use borrow.Author.Rules.{rules}
 use Rattle.moving_average.proofs.ring.slot.Goals as goal
 
 pub returns-then-s-ring : goal.returns-then-s-ring

@@ -1,6 +1,5 @@
 -- `ring::slot_time` is the real of its slot's word. Assumes nothing.
 use Rattle.moving_average.specs.Ring.{slot_time}
-use borrow.Author.Rules.{rules}
 use Rattle.moving_average.proofs.ring.slot_time.Goals as goal
 
 pub returns : goal.returns

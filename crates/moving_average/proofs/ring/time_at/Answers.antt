@@ -1,6 +1,5 @@
 -- `ring::time_at` is the real of its word. Assumes nothing.
 use Rattle.moving_average.specs.Ring.{time_at}
-use borrow.Author.Rules.{rules}
 use Rattle.moving_average.proofs.ring.time_at.Goals as goal
 
 pub returns : goal.returns

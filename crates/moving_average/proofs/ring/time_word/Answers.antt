@@ -2,7 +2,6 @@
 use native.Mathlib.Omega.{arith}
 use Rattle.moving_average.specs.Ring.{time_word}
 use Rattle.moving_average.proofs.Places.{time_within}
-use borrow.Author.Rules.{rules}
 use Rattle.moving_average.proofs.ring.time_word.Goals as goal
 
 pub offset_bounds-region-at : goal.offset_bounds-region-at

@@ -1,6 +1,5 @@
 -- `state::decodes` makes the three tests. Assumes nothing.
 use Rattle.moving_average.specs.MovingAverage.{decodable}
-use borrow.Author.Rules.{rules}
 use Rattle.moving_average.proofs.state.decodes.Goals as goal
 
 pub returns : goal.returns

@@ -1,6 +1,5 @@
 -- `state::state_of` reads the six words. Assumes nothing.
 use Rattle.moving_average.specs.MovingAverage.{state_of}
-use borrow.Author.Rules.{rules}
 use Rattle.moving_average.proofs.state.state_of.Goals as goal
 
 pub returns : goal.returns

@@ -2,7 +2,6 @@
 use borrow.Author.Tests.{le-leb, lt-leb}
 use lib.Ieee.{of_bits, round}
 use Rattle.moving_average.specs.Average.{is_crowded}
-use borrow.Author.Rules.{rules}
 use Rattle.moving_average.proofs.store.crowded.Goals as goal
 
 pub returns-then-ring-count : goal.returns-then-ring-count

@@ -1,7 +1,6 @@
 -- `store::place_for` compares time bits, then looks for room. Assumes nothing.
 use borrow.Author.Tests.{eq-eqb, ne_eqb}
 use Rattle.moving_average.specs.Average.{place_of}
-use borrow.Author.Rules.{rules}
 use Rattle.moving_average.proofs.store.place_for.Goals as goal
 
 pub returns-then-count-eq0 : goal.returns-then-count-eq0

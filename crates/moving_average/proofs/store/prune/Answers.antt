@@ -2,7 +2,6 @@
 use native.Mathlib.Omega.{arith}
 use Rattle.moving_average.specs.Average.{pruned}
 use Rattle.moving_average.proofs.Walks.{expired_most}
-use borrow.Author.Rules.{rules}
 use Rattle.moving_average.proofs.store.prune.Goals as goal
 
 pub slot-requires : goal.slot-requires

@@ -4,7 +4,6 @@ use lib.ListN.{length-set}
 use Rattle.moving_average.specs.Average.{written}
 use Rattle.moving_average.proofs.Places.{time_within, mu_within}
 use Rattle.moving_average.proofs.Stores.{six_written}
-use borrow.Author.Rules.{rules}
 use Rattle.moving_average.proofs.store.write.Goals as goal
 
 pub bounds-region-1 : goal.bounds-region-1

@@ -2,12 +2,10 @@
 use mathlib.Core.Bool.{Bool, not}
 use mathlib.Core.List.{List}
 use Prim.Native.Nat.{ℕ, ◌-◌}
-use native.Mathlib.Omega.{arith}
 use lib.Ieee.{Float, le}
-use Rattle.moving_average.specs.Ring.{time_at, edge_of}
+use Rattle.moving_average.specs.Ring.{time_at}
 use Rattle.moving_average.specs.declared.ring.Ring.{Ring}
-use Rattle.moving_average.proofs.Walks.{Passed, passed_none, passed_more, passed_stop, passed_all}
-use borrow.Author.Rules.{rules}
+use Rattle.moving_average.proofs.Walks.{Passed}
 use Rattle.moving_average.proofs.walk.edge.Given as goal
 
 -- the walk goes on past the position n

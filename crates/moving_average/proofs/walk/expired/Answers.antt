@@ -1,13 +1,12 @@
 -- `walk::expired` stops at the first time after the cutoff. Assumes nothing.
 use mathlib.Core.Bool.{Bool}
 use mathlib.Core.List.{List}
-use Prim.Native.Nat.{ℕ, ◌+◌, ◌-◌}
+use Prim.Native.Nat.{ℕ, ◌+◌}
 use native.Mathlib.Omega.{arith}
 use lib.Ieee.{Float, le}
 use Rattle.moving_average.specs.Ring.{time_at, expired_of}
 use Rattle.moving_average.specs.declared.ring.Ring.{Ring}
-use Rattle.moving_average.proofs.Walks.{Passed, passed_none, passed_more, passed_stop, passed_all}
-use borrow.Author.Rules.{rules}
+use Rattle.moving_average.proofs.Walks.{passed_none, passed_more, passed_stop, passed_all}
 use Rattle.moving_average.proofs.walk.expired.Goals as goal
 
 -- the point before the position n expires

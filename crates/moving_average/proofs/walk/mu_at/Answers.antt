@@ -3,7 +3,6 @@ use native.Mathlib.Omega.{arith}
 use borrow.Author.Tests.{eq-eqb, ne_eqb, lt-ltb, le-ltb}
 use Rattle.moving_average.specs.Average.{mu_from, mu_at}
 use Rattle.moving_average.proofs.Walks.{edge_most}
-use borrow.Author.Rules.{rules}
 use Rattle.moving_average.proofs.walk.mu_at.Goals as goal
 
 pub returns-then-count-eq0 : goal.returns-then-count-eq0

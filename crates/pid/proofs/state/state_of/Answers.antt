@@ -1,6 +1,5 @@
 -- `state_of` reads each word at its place. Assumes nothing.
 use lib.Ieee.{of_bits}
-use borrow.Author.Rules.{rules}
 use Rattle.pid.specs.Pid.{state_of}
 use Rattle.pid.proofs.state.state_of.Goals as goal
 

@@ -1,5 +1,4 @@
 -- `write` stores each word at its place. Assumes nothing.
-use borrow.Author.Rules.{rules}
 use Rattle.pid.specs.Pid.{words_of}
 use Rattle.pid.proofs.Decoding.{none_stored}
 use Rattle.pid.proofs.state.write.Goals as goal

@@ -1,9 +1,6 @@
 -- `run_moving_average` leaves the region and the answers of its ticks. Assumes nothing.
 use native.Mathlib.Omega.{arith}
-use Prim.Native.Nat.{◌-◌}
-use borrow.Author.Rules.{rules}
-use Rattle.moving_average.specs.MovingAverage.{machine}
-use Rattle.runs.proofs.Running.{Running, running_none, running_more, running_all}
+use Rattle.runs.proofs.Running.{running_none, running_more, running_all}
 use Rattle.runs.proofs.loops.run_moving_average.Goals as goal
 
 pub loop-n-init : goal.loop-n-init

@@ -1,9 +1,7 @@
 -- `run_timer_accumulating` leaves the region and the answers of its ticks. Assumes nothing.
-use native.Mathlib.Omega.{arith}
 use Prim.Native.Nat.{◌-◌}
-use borrow.Author.Rules.{rules}
 use Rattle.timer_accumulating.specs.TimerAccumulating.{machine}
-use Rattle.runs.proofs.Running.{Running, running_none, running_more, running_all}
+use Rattle.runs.proofs.Running.{Running}
 use Rattle.runs.proofs.loops.run_timer_accumulating.Given as goal
 
 abbrev pub invariant-loop-n : goal.invariant-loop-n

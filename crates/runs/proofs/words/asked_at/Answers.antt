@@ -1,5 +1,4 @@
 -- `asked_at` reads the tick of a number. Assumes nothing.
-use borrow.Author.Rules.{rules}
 use Rattle.runs.proofs.words.asked_at.Goals as goal
 
 pub returns : goal.returns

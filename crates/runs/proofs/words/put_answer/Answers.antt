@@ -1,7 +1,6 @@
 -- `put_answer` stores the answer's words. Assumes nothing.
 use native.Mathlib.Omega.{arith}
 use native.Mathlib.Numerals.{add-one, add-two, add-three}
-use borrow.Author.Rules.{rules}
 use lib.ListN.{length-set}
 use Rattle.runs.proofs.words.put_answer.Goals as goal
 

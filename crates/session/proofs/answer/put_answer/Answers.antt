@@ -1,5 +1,4 @@
 -- `answer::put_answer` meets its contract: each arm writes the outputs that its block has. Assumes nothing.
-use borrow.Author.Rules.{rules}
 use Rattle.session.specs.Answers.{answer_text}
 use Rattle.session.proofs.answer.put_answer.Goals as goal
 

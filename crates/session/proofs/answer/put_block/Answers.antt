@@ -1,5 +1,4 @@
 -- `answer::put_block` meets its contract: each arm writes its block's name. Assumes nothing.
-use borrow.Author.Rules.{rules}
 use Rattle.session.proofs.answer.put_block.Goals as goal
 
 pub returns-in-Pid : goal.returns-in-Pid

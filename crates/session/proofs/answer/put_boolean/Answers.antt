@@ -1,5 +1,4 @@
 -- `answer::put_boolean` meets its contract: its pieces are the line. Assumes nothing.
-use borrow.Author.Rules.{rules}
 use Rattle.session.proofs.Putting.{put_more, put_as}
 use Rattle.session.proofs.Answering.{boolean_line}
 use Rattle.session.proofs.answer.put_boolean.Goals as goal

@@ -1,5 +1,4 @@
 -- `answer::put_both` meets its contract: its pieces are the line. Assumes nothing.
-use borrow.Author.Rules.{rules}
 use mathlib.Core.Path.{ap, ◌∙◌}
 use Rattle.text.specs.Word.{word_text}
 use Rattle.session.proofs.Putting.{put_more, put_as}

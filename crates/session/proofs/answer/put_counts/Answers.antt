@@ -1,5 +1,4 @@
 -- `answer::put_counts` meets its contract: its pieces are the line, and there is room for each. Assumes nothing.
-use borrow.Author.Rules.{rules}
 use native.Mathlib.Omega.{arith}
 use Rattle.text.proofs.Lengths.{length_decimal_most}
 use Rattle.session.proofs.Putting.{put_more}

@@ -1,14 +1,11 @@
 -- `chunk::feed_all` meets its contract: what is left of the chunk leads from the run at hand to where all of it leads. Assumes nothing.
-use borrow.Author.Rules.{rules}
-use Prim.Native.Nat.{◌-◌, ◌*◌, ◌≤◌}
-use mathlib.Core.Path.{◌≡◌, refl, sym, ◌∙◌}
+use mathlib.Core.Path.{refl, sym, ◌∙◌}
 use native.Mathlib.Omega.{arith}
-use lib.ListN.{length, take}
+use lib.ListN.{take}
 use lib.Seq.{length-take-le}
-use Rattle.session.specs.Stream.{at_hand}
 use Rattle.session.proofs.Putting.{put_counts}
 use Rattle.session.proofs.Short.{line_short}
-use Rattle.session.proofs.Feeding.{Running, running_start, running_line, running_byte, running_end}
+use Rattle.session.proofs.Feeding.{running_start, running_line, running_byte, running_end}
 use Rattle.session.proofs.chunk.feed_all.Goals as goal
 
 pub loop-i-init : goal.loop-i-init

@@ -1,14 +1,9 @@
 -- `chunk::feed_all` meets its contract: what is left of the chunk leads from the run at hand to where all of it leads. Assumes nothing.
-use borrow.Author.Rules.{rules}
 use Prim.Native.Nat.{◌-◌, ◌*◌, ◌≤◌}
-use mathlib.Core.Path.{◌≡◌, refl, sym, ◌∙◌}
-use native.Mathlib.Omega.{arith}
-use lib.ListN.{length, take}
-use lib.Seq.{length-take-le}
+use mathlib.Core.Path.{◌≡◌}
+use lib.ListN.{length}
 use Rattle.session.specs.Stream.{at_hand}
-use Rattle.session.proofs.Putting.{put_counts}
-use Rattle.session.proofs.Short.{line_short}
-use Rattle.session.proofs.Feeding.{Running, running_start, running_line, running_byte, running_end}
+use Rattle.session.proofs.Feeding.{Running}
 use Rattle.session.proofs.chunk.feed_all.Given as goal
 
 abbrev pub invariant-loop-i : goal.invariant-loop-i

@@ -1,5 +1,4 @@
 -- `chunk::finish_in` meets its contract: its two ends are those of the definition. Assumes nothing.
-use borrow.Author.Rules.{rules}
 use mathlib.Core.Path.{sym}
 use native.Mathlib.Omega.{arith}
 use lib.ListN.{take}

@@ -1,5 +1,4 @@
 -- `chunk::put_closing` meets its contract: each session has its own end. Assumes nothing.
-use borrow.Author.Rules.{rules}
 use Rattle.session.proofs.Putting.{put_none}
 use Rattle.session.proofs.chunk.put_closing.Goals as goal
 

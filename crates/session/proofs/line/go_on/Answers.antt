@@ -1,5 +1,4 @@
 -- `line::go_on` meets its contract: each return is a case of `goesOn`. Assumes nothing.
-use borrow.Author.Rules.{rules}
 use mathlib.Core.Path.{refl}
 use borrow.Author.Tests.{not-true, not-false}
 use Rattle.session.proofs.Going.{goes, on_bad, on_tick}

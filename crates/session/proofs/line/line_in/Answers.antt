@@ -1,5 +1,4 @@
 -- `line::line_in` meets its contract: each session takes its own step. Assumes nothing.
-use borrow.Author.Rules.{rules}
 use mathlib.Core.Path.{refl, ap}
 use Rattle.session.specs.Stream.{line_in, first_names}
 use Rattle.session.proofs.Putting.{put_none}

@@ -1,5 +1,4 @@
 -- `line::open_with` meets its contract: each return is a case of `firstNames`. Assumes nothing.
-use borrow.Author.Rules.{rules}
 use mathlib.Core.Path.{refl}
 use Rattle.session.proofs.Going.{goes, open_nothing, open_refused, open_starts}
 use Rattle.session.proofs.line.open_with.Goals as goal

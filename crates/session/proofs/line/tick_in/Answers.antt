@@ -1,5 +1,4 @@
 -- `line::tick_in` meets its contract: each return is a case of `tickGoes`. Assumes nothing.
-use borrow.Author.Rules.{rules}
 use mathlib.Core.Path.{◌≡◌, refl, sym, ap}
 use lib.Seq.{length-take-le}
 use Rattle.dynamics.specs.declared.call.Length.{Length}

@@ -1,9 +1,8 @@
 -- `put::put_bytes` meets its contract: what is still to be put makes of the buffer what all of s does. Assumes nothing.
-use Prim.Native.Nat.{◌+◌, ◌-◌, ◌≤◌}
-use mathlib.Core.Path.{◌≡◌, refl, sym, ap, ◌∙◌}
+use mathlib.Core.Path.{refl, sym, ap, ◌∙◌}
 use borrow.Author.Rules.{rules}
 use native.Mathlib.Omega.{arith}
-use lib.ListN.{length, drop, drop_of_length-le, length-set}
+use lib.ListN.{drop_of_length-le, length-set}
 use lib.Seq.{sets}
 use Rattle.session.proofs.Putting.{put_next}
 use Rattle.session.proofs.put.put_bytes.Goals as goal

@@ -1,5 +1,4 @@
 -- `put::put_decimal` meets its contract: what is put is the digits that count. Assumes nothing.
-use borrow.Author.Rules.{rules}
 use native.Mathlib.Omega.{arith}
 use Rattle.session.proofs.Putting.{put_as}
 use Rattle.text.proofs.Spelling.{spelled_length, spelled_part}

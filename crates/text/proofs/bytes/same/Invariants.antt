@@ -1,11 +1,8 @@
 -- `bytes::same` meets its contract: what is left of the two from i on is the same exactly if the two are. Assumes nothing.
 use Prim.Native.Nat.{◌-◌, ◌≤◌}
-use mathlib.Core.Path.{◌≡◌, refl, sym, ◌∙◌}
-use borrow.Author.Rules.{rules}
-use native.Mathlib.Omega.{arith}
+use mathlib.Core.Path.{◌≡◌}
 use lib.ListN.{length, drop}
 use Rattle.text.specs.Bytes.{same_list}
-use Rattle.text.proofs.Comparing.{same_here, same_not, same_end, same_length}
 use Rattle.text.proofs.bytes.same.Given as goal
 
 abbrev pub invariant-loop-i : goal.invariant-loop-i

@@ -1,5 +1,4 @@
 -- `controller_type::read_type` meets its contract: the texts are tried in the definition's order. Assumes nothing.
-use borrow.Author.Rules.{rules}
 use Rattle.text.specs.Items.{type_item}
 use Rattle.text.proofs.controller_type.read_type.Goals as goal
 

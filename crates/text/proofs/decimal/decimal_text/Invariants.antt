@@ -1,9 +1,5 @@
 -- `decimal::decimal_text` meets its contract: the digits from `start` on are spelled, those of `rest` are still to be. Assumes nothing.
-use Prim.Native.Nat.{ℕ, suc, ◌-◌}
-use mathlib.Core.Path.{◌≡◌, subst}
-use borrow.Author.Rules.{rules}
-use native.Mathlib.Omega.{arith}
-use Rattle.text.proofs.Spelling.{Spelling, spelling_last, spelling_next, spelling_room, spelling_end}
+use Rattle.text.proofs.Spelling.{Spelling}
 use Rattle.text.proofs.decimal.decimal_text.Given as goal
 
 abbrev pub invariant-loop-rest : goal.invariant-loop-rest

@@ -1,7 +1,6 @@
 -- `flag::read_flag` meets its contract: a text of one byte is compared by that byte. Assumes nothing.
 use mathlib.Core.List.{[], ◌∷◌}
 use borrow.Author.Tests.{eq-eqb, ne_eqb}
-use borrow.Author.Rules.{rules}
 use Rattle.text.specs.Items.{flag_item}
 use Rattle.text.proofs.Comparing.{same_length, same_one}
 use Rattle.text.proofs.flag.read_flag.Goals as goal

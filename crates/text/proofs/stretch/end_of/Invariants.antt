@@ -1,11 +1,8 @@
 -- `stretch::end_of` meets its contract: the stretch from i on ends where the one from `at` on does. Assumes nothing.
 use Prim.Native.Nat.{◌+◌, ◌-◌, ◌≤◌}
 use mathlib.Core.Path.{◌≡◌}
-use borrow.Author.Rules.{rules}
-use native.Mathlib.Omega.{arith}
 use lib.ListN.{length, drop}
 use Rattle.text.specs.Stretches.{up_to}
-use Rattle.text.proofs.Stretches.{up_to_here, up_to_later, up_to_end}
 use Rattle.text.proofs.stretch.end_of.Given as goal
 
 abbrev pub invariant-loop-i : goal.invariant-loop-i

@@ -1,6 +1,5 @@
 -- `word::digit` meets its contract: each arm is a case of `glyph`. Assumes nothing.
 use borrow.Author.Tests.{lt-ltb, le-ltb}
-use borrow.Author.Rules.{rules}
 use Rattle.text.specs.Word.{glyph}
 use Rattle.text.proofs.word.digit.Goals as goal
 

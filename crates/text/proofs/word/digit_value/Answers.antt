@@ -1,6 +1,5 @@
 -- `word::digit_value` meets its contract: each arm is a case of `digitValue`. Assumes nothing.
 use borrow.Author.Tests.{lt-ltb, le-ltb}
-use borrow.Author.Rules.{rules}
 use Rattle.text.specs.Word.{digit_value}
 use Rattle.text.proofs.word.digit_value.Goals as goal
 

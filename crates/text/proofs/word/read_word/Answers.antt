@@ -1,10 +1,10 @@
 -- `word::read_word` meets its contract: the digits that are left go on from the number so far as all of them do from 0. Assumes nothing.
-use Prim.Native.Nat.{ℕ, ◌+◌, ◌-◌, ◌*◌, ◌^◌, ◌≤◌, ◌<◌}
-use mathlib.Core.Path.{◌≡◌, sym, ap, ◌∙◌}
+use Prim.Native.Nat.{ℕ, ◌+◌, ◌*◌, ◌≤◌, ◌<◌}
+use mathlib.Core.Path.{sym, ap, ◌∙◌}
 use borrow.Author.Tests.{eq-eqb, ne_eqb}
 use borrow.Author.Rules.{rules}
 use native.Mathlib.Omega.{arith}
-use lib.ListN.{length, drop, get_or}
+use lib.ListN.{drop, get_or}
 use Rattle.text.specs.Word.{digit_value, word_item, hex_from}
 use Rattle.text.proofs.Digits.{hex_digit, hex_other, hex_end, hex_grows, hex_fits}
 use Rattle.text.proofs.word.read_word.Goals as goal

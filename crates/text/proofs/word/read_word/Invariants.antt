@@ -1,12 +1,8 @@
 -- `word::read_word` meets its contract: the digits that are left go on from the number so far as all of them do from 0. Assumes nothing.
-use Prim.Native.Nat.{ℕ, ◌+◌, ◌-◌, ◌*◌, ◌^◌, ◌≤◌, ◌<◌}
-use mathlib.Core.Path.{◌≡◌, sym, ap, ◌∙◌}
-use borrow.Author.Tests.{eq-eqb, ne_eqb}
-use borrow.Author.Rules.{rules}
-use native.Mathlib.Omega.{arith}
-use lib.ListN.{length, drop, get_or}
-use Rattle.text.specs.Word.{digit_value, word_item, hex_from}
-use Rattle.text.proofs.Digits.{hex_digit, hex_other, hex_end, hex_grows, hex_fits}
+use Prim.Native.Nat.{◌-◌, ◌^◌, ◌≤◌, ◌<◌}
+use mathlib.Core.Path.{◌≡◌}
+use lib.ListN.{length, drop}
+use Rattle.text.specs.Word.{hex_from}
 use Rattle.text.proofs.word.read_word.Given as goal
 
 abbrev pub invariant-loop-i : goal.invariant-loop-i

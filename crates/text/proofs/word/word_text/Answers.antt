@@ -5,7 +5,7 @@ use mathlib.Core.List.{◌++◌}
 use borrow.Author.Rules.{rules}
 use native.Mathlib.Omega.{arith}
 use lib.ListN.{length, take, set, length-set}
-use Rattle.text.specs.Word.{hex_text, word_text}
+use Rattle.text.specs.Word.{hex_text}
 use Rattle.text.proofs.Writing.{hex_next, hex_whole}
 use Rattle.text.proofs.word.word_text.Goals as goal
 

@@ -1,12 +1,9 @@
 -- `word::word_text` meets its contract: the digits before i, and then the last k of w, are all of them. Assumes nothing.
-use Prim.Native.Nat.{ℕ, suc, ◌+◌, ◌-◌, ◌<◌}
-use mathlib.Core.Path.{◌≡◌, refl, sym, ap, ◌∙◌}
+use Prim.Native.Nat.{◌+◌}
+use mathlib.Core.Path.{◌≡◌}
 use mathlib.Core.List.{◌++◌}
-use borrow.Author.Rules.{rules}
-use native.Mathlib.Omega.{arith}
-use lib.ListN.{length, take, set, length-set}
+use lib.ListN.{length, take}
 use Rattle.text.specs.Word.{hex_text, word_text}
-use Rattle.text.proofs.Writing.{hex_next, hex_whole}
 use Rattle.text.proofs.word.word_text.Given as goal
 
 abbrev pub invariant-loop-i : goal.invariant-loop-i

@@ -1,5 +1,4 @@
 -- `state::state_of` reads each word at its place. Assumes nothing.
-use borrow.Author.Rules.{rules}
 use Rattle.timer_accumulating.specs.TimerAccumulating.{state_of}
 use Rattle.timer_accumulating.proofs.state.state_of.Goals as goal
 

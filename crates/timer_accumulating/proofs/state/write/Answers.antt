@@ -1,5 +1,4 @@
 -- `state::write` stores each word at its place. Assumes nothing.
-use borrow.Author.Rules.{rules}
 use Rattle.timer_accumulating.specs.TimerAccumulating.{words_of}
 use Rattle.timer_accumulating.proofs.state.write.Goals as goal
 

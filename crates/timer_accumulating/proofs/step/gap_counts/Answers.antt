@@ -1,5 +1,4 @@
 -- `step::gap_counts` tells whether the gap counts. Assumes nothing.
-use borrow.Author.Rules.{rules}
 use Rattle.timer_accumulating.proofs.step.gap_counts.Goals as goal
 
 pub returns : goal.returns

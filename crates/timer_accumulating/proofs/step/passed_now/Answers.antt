@@ -1,6 +1,5 @@
 -- `step::passed_now` meets its contract. Assumes nothing.
 use mathlib.Core.Path.{sym, ◌∙◌}
-use borrow.Author.Rules.{rules}
 use lib.Ieee.{of_bits}
 use Rattle.timer_accumulating.proofs.Cases.{passed_wiped, passed_sampled, passed_reached, passed_held}
 use Rattle.timer_accumulating.proofs.step.passed_now.Goals as goal

@@ -1,5 +1,4 @@
 -- `step::step` is one tick. Assumes nothing.
-use borrow.Author.Rules.{rules}
 use Rattle.timer_accumulating.specs.TimerAccumulating.{next, advance}
 use Rattle.timer_accumulating.proofs.step.step.Goals as goal
 

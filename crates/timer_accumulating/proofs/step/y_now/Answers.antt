@@ -1,6 +1,5 @@
 -- `step::y_now` meets its contract. Assumes nothing.
 use mathlib.Core.Path.{sym, ◌∙◌}
-use borrow.Author.Rules.{rules}
 use lib.Ieee.{of_bits}
 use Rattle.timer_accumulating.proofs.Cases.{y_wiped, y_grown, y_kept}
 use Rattle.timer_accumulating.proofs.step.y_now.Goals as goal

@@ -1,5 +1,4 @@
 -- `state::state_of` reads each word at its place. Assumes nothing.
-use borrow.Author.Rules.{rules}
 use Rattle.true_delay.specs.TrueDelay.{state_of}
 use Rattle.true_delay.proofs.state.state_of.Goals as goal
 

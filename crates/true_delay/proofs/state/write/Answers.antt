@@ -1,5 +1,4 @@
 -- `state::write` stores each word at its place. Assumes nothing.
-use borrow.Author.Rules.{rules}
 use Rattle.true_delay.specs.TrueDelay.{words_of}
 use Rattle.true_delay.proofs.state.write.Goals as goal
 

@@ -1,6 +1,5 @@
 -- `step::output_and_timer` meets its contract. Assumes nothing.
 use mathlib.Core.Path.{sym, ◌∙◌}
-use borrow.Author.Rules.{rules}
 use lib.Ieee.{of_bits}
 use Rattle.true_delay.proofs.Cases.{low, waits_first, passes_first, holds_on, rose, runs}
 use Rattle.true_delay.proofs.step.output_and_timer.Goals as goal

@@ -1,5 +1,4 @@
 -- `step::step` is one tick. Assumes nothing.
-use borrow.Author.Rules.{rules}
 use Rattle.true_delay.specs.TrueDelay.{next, advance}
 use Rattle.true_delay.proofs.step.step.Goals as goal
 

@@ -1,5 +1,4 @@
 -- `step::required_time` meets its contract. Assumes nothing.
-use borrow.Author.Rules.{rules}
 use Rattle.true_false_hold.proofs.Cases.{required_true, required_false}
 use Rattle.true_false_hold.proofs.step.required_time.Goals as goal
 

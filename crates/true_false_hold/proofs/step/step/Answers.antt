@@ -1,5 +1,4 @@
 -- `step::step` is one tick. Assumes nothing.
-use borrow.Author.Rules.{rules}
 use Rattle.true_false_hold.specs.TrueFalseHold.{next, advance}
 use Rattle.true_false_hold.proofs.step.step.Goals as goal
 

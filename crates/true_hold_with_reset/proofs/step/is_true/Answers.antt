@@ -1,5 +1,4 @@
 -- `step::is_true` tells whether the output is true. Assumes nothing.
-use borrow.Author.Rules.{rules}
 use Rattle.true_hold_with_reset.specs.TrueHoldWithReset.{holds}
 use Rattle.true_hold_with_reset.proofs.step.is_true.Goals as goal
 

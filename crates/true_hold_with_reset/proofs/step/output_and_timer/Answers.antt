@@ -1,6 +1,5 @@
 -- `step::output_and_timer` meets its contract. Assumes nothing.
 use mathlib.Core.Path.{sym, ◌∙◌}
-use borrow.Author.Rules.{rules}
 use lib.Ieee.{of_bits}
 use Rattle.true_hold_with_reset.proofs.Cases.{cleared, first, held_on, over}
 use Rattle.true_hold_with_reset.proofs.step.output_and_timer.Goals as goal

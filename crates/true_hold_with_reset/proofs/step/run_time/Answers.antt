@@ -1,5 +1,4 @@
 -- `step::run_time` meets its contract. Assumes nothing.
-use borrow.Author.Rules.{rules}
 use lib.Ieee.{of_bits}
 use Rattle.true_hold_with_reset.proofs.Cases.{run_on, run_none}
 use Rattle.true_hold_with_reset.proofs.step.run_time.Goals as goal

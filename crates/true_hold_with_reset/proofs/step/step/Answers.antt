@@ -1,5 +1,4 @@
 -- `step::step` is one tick. Assumes nothing.
-use borrow.Author.Rules.{rules}
 use Rattle.true_hold_with_reset.specs.TrueHoldWithReset.{next, advance}
 use Rattle.true_hold_with_reset.proofs.step.step.Goals as goal
 

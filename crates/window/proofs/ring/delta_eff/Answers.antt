@@ -1,6 +1,5 @@
 -- `delta_eff` raises to 1e-5, by its bit pattern. Assumes nothing.
 use lib.Ieee.{of_bits, round}
-use Rattle.std.proofs.Common.{rules}
 use Rattle.window.specs.Geometry.{delta_eff}
 use Rattle.window.proofs.ring.delta_eff.Goals as goal
 

@@ -1,5 +1,5 @@
 -- `geometry` is the ring of 2 * (delta rounded up) slots, which are so few that every sum and product is a word. Assumes nothing.
-use Rattle.std.proofs.Common.{◌≡◌, ℕ, ◌^◌, ◌≤◌, arith, le→leb, rules}
+use Rattle.std.proofs.Common.{◌≡◌, ℕ, ◌^◌, ◌≤◌, arith, le→leb}
 use lib.Ieee.{Float, of_bits, round, in_float}
 use Rattle.window.specs.Geometry.{slots_of, slot_count, geometry_of}
 use Rattle.window.proofs.Sizes.{slots_within}

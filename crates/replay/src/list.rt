@@ -34,7 +34,7 @@ fn replay_line(form: Form, line: &[u8], region: &mut [u64], expected: &mut [u64]
 fn replay_lines(
     rt: &impl Print,
     form: Form,
-    file: &str,
+    file: &[u8],
     lines: &[u8],
     region: &mut [u64],
     expected: &mut [u64],
@@ -75,10 +75,13 @@ fn read_full(input: &mut impl Read, bytes: &mut [u8]) -> usize
 }
 
 // Reads a file, as far as it can be read. How many bytes were read.
-fn read_file(rt: &impl Files, file: &str, bytes: &mut [u8]) -> usize
+fn read_file(rt: &impl Files, file: &[u8], bytes: &mut [u8]) -> usize
     ensures { result ≤ length bytes.new }
 {
-    match File::open(rt, file) {
+    let Ok(path) = str::from_utf8(file) else {
+        return 0;
+    };
+    match File::open(rt, path) {
         Ok(mut input) => read_full(&mut input, bytes),
         Err(_) => 0,
     }
@@ -88,7 +91,7 @@ fn read_file(rt: &impl Files, file: &str, bytes: &mut [u8]) -> usize
 fn replay_list(
     rt: &(impl Files + Print),
     form: Form,
-    file: &str,
+    file: &[u8],
     bytes: &mut [u8],
     region: &mut [u64],
     expected: &mut [u64],
@@ -114,17 +117,17 @@ fn replay_block(
 {
     let form = form_of(number);
     match number {
-        0 => replay_list(rt, form, "Pid.txt", bytes, region, expected),
-        1 => replay_list(rt, form, "PidWithReset.txt", bytes, region, expected),
-        2 => replay_list(rt, form, "MovingAverage.txt", bytes, region, expected),
-        3 => replay_list(rt, form, "TimerAccumulating.txt", bytes, region, expected),
-        4 => replay_list(rt, form, "TrueDelay.txt", bytes, region, expected),
-        5 => replay_list(rt, form, "TrueFalseHold.txt", bytes, region, expected),
-        6 => replay_list(rt, form, "TrueHoldWithReset.txt", bytes, region, expected),
+        0 => replay_list(rt, form, b"Pid.txt", bytes, region, expected),
+        1 => replay_list(rt, form, b"PidWithReset.txt", bytes, region, expected),
+        2 => replay_list(rt, form, b"MovingAverage.txt", bytes, region, expected),
+        3 => replay_list(rt, form, b"TimerAccumulating.txt", bytes, region, expected),
+        4 => replay_list(rt, form, b"TrueDelay.txt", bytes, region, expected),
+        5 => replay_list(rt, form, b"TrueFalseHold.txt", bytes, region, expected),
+        6 => replay_list(rt, form, b"TrueHoldWithReset.txt", bytes, region, expected),
         _ => replay_list(
             rt,
             form,
-            "LogicalVariablePulse.txt",
+            b"LogicalVariablePulse.txt",
             bytes,
             region,
             expected,

@@ -16,10 +16,9 @@ fn print_decimal(rt: &impl Print, n: u64) {
 }
 
 // The block's name: the file's up to its dot.
-fn print_name(rt: &impl Print, file: &str) {
-    let name = file.as_bytes();
-    let end = end_of(name, 0, b'.');
-    print(rt, &name[..end]);
+fn print_name(rt: &impl Print, file: &[u8]) {
+    let end = end_of(file, 0, b'.');
+    print(rt, &file[..end]);
 }
 
 fn print_counts(rt: &impl Print, tally: Tally) {
@@ -31,7 +30,7 @@ fn print_counts(rt: &impl Print, tally: Tally) {
 }
 
 // A block's line.
-pub fn print_tally(rt: &impl Print, file: &str, tally: Tally) {
+pub fn print_tally(rt: &impl Print, file: &[u8], tally: Tally) {
     print_name(rt, file);
     print_counts(rt, tally);
 }
@@ -43,15 +42,15 @@ pub fn print_total(rt: &impl Print, tally: Tally) {
 }
 
 // What is wrong with a line of a list.
-fn print_wrong(rt: &impl Print, file: &str, line: u64, what: &[u8]) {
-    print(rt, file.as_bytes());
+fn print_wrong(rt: &impl Print, file: &[u8], line: u64, what: &[u8]) {
+    print(rt, file);
     print(rt, b" line ");
     print_decimal(rt, line);
     print(rt, what);
 }
 
 // Tells of a line that differs. 1 for such a line, 0 for another.
-pub fn tell(rt: &impl Print, file: &str, line: u64, verdict: Verdict) -> u64
+pub fn tell(rt: &impl Print, file: &[u8], line: u64, verdict: Verdict) -> u64
     ensures value { result ≡ told verdict }
     ensures upper_bound { result ≤ 1 }
 {

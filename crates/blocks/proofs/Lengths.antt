@@ -65,8 +65,8 @@ measured (MovingAverage delta) = record {
   few = unfold machine_for in length_most delta;
 }
 measured (TimerAccumulating t) = stepped accumulating.timer (record { t = t }) (lit≤ tt)
-measured (TrueDelay time on-init) = stepped delay.timer (record { delay_time = time; delay_on_init = on-init }) (lit≤ tt)
-measured (TrueFalseHold long-true long-false) = stepped false_hold.hold (record { true_hold_duration = long-true; false_hold_duration = long-false }) (lit≤ tt)
+measured (TrueDelay time on_init) = stepped delay.timer (record { delay_time = time; delay_on_init = on_init }) (lit≤ tt)
+measured (TrueFalseHold long_true long_false) = stepped false_hold.hold (record { true_hold_duration = long_true; false_hold_duration = long_false }) (lit≤ tt)
 measured (TrueHoldWithReset duration) = stepped reset_hold.hold (record { duration = duration }) (lit≤ tt)
 measured (LogicalVariablePulse period delta least) = stepped pulse (record { period = period; delta_u = delta; min_true_false_hold = least }) (lit≤ tt)
 

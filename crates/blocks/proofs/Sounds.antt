@@ -34,8 +34,8 @@ sound_exactly (Pid s) w = as_decoding _ w refl
 sound_exactly (PidWithReset s) w = as_decoding _ w refl
 sound_exactly (MovingAverage delta) w = (average.sound_means (record { delta = delta }) w, average.means_sound (record { delta = delta }) w)
 sound_exactly (TimerAccumulating t) w = as_decoding _ w refl
-sound_exactly (TrueDelay time on-init) w = as_decoding _ w refl
-sound_exactly (TrueFalseHold long-true long-false) w = as_decoding _ w refl
+sound_exactly (TrueDelay time on_init) w = as_decoding _ w refl
+sound_exactly (TrueFalseHold long_true long_false) w = as_decoding _ w refl
 sound_exactly (TrueHoldWithReset duration) w = as_decoding _ w refl
 sound_exactly (LogicalVariablePulse period delta least) w = as_decoding _ w refl
 
@@ -45,7 +45,7 @@ stays_sound (Pid s) = controllers.stays_sound false s
 stays_sound (PidWithReset s) = controllers.stays_sound true s
 stays_sound (MovingAverage delta) = average.stays_sound (record { delta = delta })
 stays_sound (TimerAccumulating t) = accumulating.stays_sound (record { t = t })
-stays_sound (TrueDelay time on-init) = delay.stays_sound (record { delay_time = time; delay_on_init = on-init })
-stays_sound (TrueFalseHold long-true long-false) = false_hold.stays_sound (record { true_hold_duration = long-true; false_hold_duration = long-false })
+stays_sound (TrueDelay time on_init) = delay.stays_sound (record { delay_time = time; delay_on_init = on_init })
+stays_sound (TrueFalseHold long_true long_false) = false_hold.stays_sound (record { true_hold_duration = long_true; false_hold_duration = long_false })
 stays_sound (TrueHoldWithReset duration) = reset_hold.stays_sound (record { duration = duration })
 stays_sound (LogicalVariablePulse period delta least) = pulse.stays_sound (record { period = period; delta_u = delta; min_true_false_hold = least })

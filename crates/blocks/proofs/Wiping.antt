@@ -41,10 +41,10 @@ keeps (Pid s) w f = absurd (true≢false (sym w))
 keeps (PidWithReset s) w f = record { good = controllers.Good; kept = controllers.kept s (pi_mode _ w) f }
 keeps (MovingAverage delta) w f = absurd (true≢false (sym w))
 keeps (TimerAccumulating t) w f = record { good = accumulating.Good; kept = accumulating.kept (record { t = t }) }
-keeps (TrueDelay time on-init) w f =
-    let b : Delay = record { delay_time = time; delay_on_init = on-init } in
+keeps (TrueDelay time on_init) w f =
+    let b : Delay = record { delay_time = time; delay_on_init = on_init } in
     record { good = delay.Good b f; kept = delay.kept b f }
-keeps (TrueFalseHold long-true long-false) w f = absurd (true≢false (sym w))
+keeps (TrueFalseHold long_true long_false) w f = absurd (true≢false (sym w))
 keeps (TrueHoldWithReset duration) w f =
     let b : ResetHold = record { duration = duration } in
     record { good = reset_hold.Good b; kept = reset_hold.kept b }
@@ -57,8 +57,8 @@ wiped_words (Pid s) w = absurd (true≢false (sym w))
 wiped_words (PidWithReset s) w = controllers.wiped_words s (pi_mode _ w)
 wiped_words (MovingAverage delta) w = absurd (true≢false (sym w))
 wiped_words (TimerAccumulating t) w = accumulating.wiped_words (record { t = t })
-wiped_words (TrueDelay time on-init) w = delay.wiped_words (record { delay_time = time; delay_on_init = on-init })
-wiped_words (TrueFalseHold long-true long-false) w = absurd (true≢false (sym w))
+wiped_words (TrueDelay time on_init) w = delay.wiped_words (record { delay_time = time; delay_on_init = on_init })
+wiped_words (TrueFalseHold long_true long_false) w = absurd (true≢false (sym w))
 wiped_words (TrueHoldWithReset duration) w = reset_hold.wiped_words (record { duration = duration })
 wiped_words (LogicalVariablePulse period delta least) w = absurd (true≢false (sym w))
 
@@ -82,8 +82,8 @@ wiping_answer (Pid s) w = absurd (true≢false (sym w))
 wiping_answer (PidWithReset s) w = absurd (true≢false (sym w))
 wiping_answer (MovingAverage delta) w = absurd (true≢false (sym w))
 wiping_answer (TimerAccumulating t) w = accumulating.wiping_answer (record { t = t })
-wiping_answer (TrueDelay time on-init) w = delay.wiping_answer (record { delay_time = time; delay_on_init = on-init })
-wiping_answer (TrueFalseHold long-true long-false) w = absurd (true≢false (sym w))
+wiping_answer (TrueDelay time on_init) w = delay.wiping_answer (record { delay_time = time; delay_on_init = on_init })
+wiping_answer (TrueFalseHold long_true long_false) w = absurd (true≢false (sym w))
 wiping_answer (TrueHoldWithReset duration) w = reset_hold.wiping_answer (record { duration = duration })
 wiping_answer (LogicalVariablePulse period delta least) w = absurd (true≢false (sym w))
 

@@ -22,8 +22,8 @@ machine_of (Pid s) = controllers.machine false s
 machine_of (PidWithReset s) = controllers.machine true s
 machine_of (MovingAverage delta) = average.machine (record { delta = delta })
 machine_of (TimerAccumulating t) = accumulating.machine (record { t = t })
-machine_of (TrueDelay time on-init) = delay.machine (record { delay_time = time; delay_on_init = on-init })
-machine_of (TrueFalseHold long-true long-false) = false_hold.machine (record { true_hold_duration = long-true; false_hold_duration = long-false })
+machine_of (TrueDelay time on_init) = delay.machine (record { delay_time = time; delay_on_init = on_init })
+machine_of (TrueFalseHold long_true long_false) = false_hold.machine (record { true_hold_duration = long_true; false_hold_duration = long_false })
 machine_of (TrueHoldWithReset duration) = reset_hold.machine (record { duration = duration })
 machine_of (LogicalVariablePulse period delta least) = pulse.machine (record { period = period; delta_u = delta; min_true_false_hold = least })
 
@@ -39,8 +39,8 @@ number_of (Pid s) = 0
 number_of (PidWithReset s) = 1
 number_of (MovingAverage delta) = 2
 number_of (TimerAccumulating t) = 3
-number_of (TrueDelay time on-init) = 4
-number_of (TrueFalseHold long-true long-false) = 5
+number_of (TrueDelay time on_init) = 4
+number_of (TrueFalseHold long_true long_false) = 5
 number_of (TrueHoldWithReset duration) = 6
 number_of (LogicalVariablePulse period delta least) = 7
 
@@ -53,8 +53,8 @@ outputs_of (Pid s) = real
 outputs_of (PidWithReset s) = real
 outputs_of (MovingAverage delta) = real
 outputs_of (TimerAccumulating t) = both
-outputs_of (TrueDelay time on-init) = boolean
-outputs_of (TrueFalseHold long-true long-false) = boolean
+outputs_of (TrueDelay time on_init) = boolean
+outputs_of (TrueFalseHold long_true long_false) = boolean
 outputs_of (TrueHoldWithReset duration) = boolean
 outputs_of (LogicalVariablePulse period delta least) = boolean
 

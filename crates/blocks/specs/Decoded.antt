@@ -34,8 +34,8 @@ state_of (Pid s) w = state.Controller (controllers.state_of s.controller_type fa
 state_of (PidWithReset s) w = state.Controller (controllers.state_of s.controller_type true w)
 state_of (MovingAverage delta) w = state.MovingAverage (average.state_of w)
 state_of (TimerAccumulating t) w = state.TimerAccumulating (accumulating.state_of w)
-state_of (TrueDelay time on-init) w = state.TrueDelay (delay.state_of w)
-state_of (TrueFalseHold long-true long-false) w = state.Hold (holds.state_of w)
+state_of (TrueDelay time on_init) w = state.TrueDelay (delay.state_of w)
+state_of (TrueFalseHold long_true long_false) w = state.Hold (holds.state_of w)
 state_of (TrueHoldWithReset duration) w = state.Hold (holds.state_of w)
 state_of (LogicalVariablePulse period delta least) w = state.LogicalVariablePulse (pulse.state_of w)
 
@@ -45,8 +45,8 @@ zeros (Pid s) = state.Controller controllers.zeros
 zeros (PidWithReset s) = state.Controller controllers.zeros
 zeros (MovingAverage delta) = state.MovingAverage average.zeros
 zeros (TimerAccumulating t) = state.TimerAccumulating accumulating.zeros
-zeros (TrueDelay time on-init) = state.TrueDelay delay.zeros
-zeros (TrueFalseHold long-true long-false) = state.Hold holds.zeros
+zeros (TrueDelay time on_init) = state.TrueDelay delay.zeros
+zeros (TrueFalseHold long_true long_false) = state.Hold holds.zeros
 zeros (TrueHoldWithReset duration) = state.Hold holds.zeros
 zeros (LogicalVariablePulse period delta least) = state.LogicalVariablePulse pulse.zeros
 

@@ -16,7 +16,7 @@ Sound (Pid s) w = Decodes (Pid s) w
 Sound (PidWithReset s) w = Decodes (PidWithReset s) w
 Sound (MovingAverage delta) w = average.Sound (record { delta = delta }) w
 Sound (TimerAccumulating t) w = Decodes (TimerAccumulating t) w
-Sound (TrueDelay time on-init) w = Decodes (TrueDelay time on-init) w
-Sound (TrueFalseHold long-true long-false) w = Decodes (TrueFalseHold long-true long-false) w
+Sound (TrueDelay time on_init) w = Decodes (TrueDelay time on_init) w
+Sound (TrueFalseHold long_true long_false) w = Decodes (TrueFalseHold long_true long_false) w
 Sound (TrueHoldWithReset duration) w = Decodes (TrueHoldWithReset duration) w
 Sound (LogicalVariablePulse period delta least) w = Decodes (LogicalVariablePulse period delta least) w

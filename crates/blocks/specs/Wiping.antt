@@ -27,8 +27,8 @@ wipeable (Pid s) = false
 wipeable (PidWithReset s) = is_pi s.controller_type
 wipeable (MovingAverage delta) = false
 wipeable (TimerAccumulating t) = true
-wipeable (TrueDelay time on-init) = true
-wipeable (TrueFalseHold long-true long-false) = false
+wipeable (TrueDelay time on_init) = true
+wipeable (TrueFalseHold long_true long_false) = false
 wipeable (TrueHoldWithReset duration) = true
 wipeable (LogicalVariablePulse period delta least) = false
 
@@ -38,8 +38,8 @@ answers_wiping (Pid s) = false
 answers_wiping (PidWithReset s) = false
 answers_wiping (MovingAverage delta) = false
 answers_wiping (TimerAccumulating t) = true
-answers_wiping (TrueDelay time on-init) = true
-answers_wiping (TrueFalseHold long-true long-false) = false
+answers_wiping (TrueDelay time on_init) = true
+answers_wiping (TrueFalseHold long_true long_false) = false
 answers_wiping (TrueHoldWithReset duration) = true
 answers_wiping (LogicalVariablePulse period delta least) = false
 
@@ -53,8 +53,8 @@ account_of (Pid s) = none
 account_of (PidWithReset s) = controllers.account s
 account_of (MovingAverage delta) = none
 account_of (TimerAccumulating t) = accumulating.account (record { t = t })
-account_of (TrueDelay time on-init) = delay.account (record { delay_time = time; delay_on_init = on-init })
-account_of (TrueFalseHold long-true long-false) = none
+account_of (TrueDelay time on_init) = delay.account (record { delay_time = time; delay_on_init = on_init })
+account_of (TrueFalseHold long_true long_false) = none
 account_of (TrueHoldWithReset duration) = reset_hold.account (record { duration = duration })
 account_of (LogicalVariablePulse period delta least) = none
 
@@ -64,7 +64,7 @@ SettingsF64 (Pid s) = T true
 SettingsF64 (PidWithReset s) = T (fits binary64 s.xi_start)
 SettingsF64 (MovingAverage delta) = T true
 SettingsF64 (TimerAccumulating t) = T true
-SettingsF64 (TrueDelay time on-init) = T (fits binary64 time)
-SettingsF64 (TrueFalseHold long-true long-false) = T true
+SettingsF64 (TrueDelay time on_init) = T (fits binary64 time)
+SettingsF64 (TrueFalseHold long_true long_false) = T true
 SettingsF64 (TrueHoldWithReset duration) = T true
 SettingsF64 (LogicalVariablePulse period delta least) = T true

@@ -160,7 +160,7 @@ module _ (M : Machine) (w : List ℕ) (k : Tick) where
   unfolding run answer_to words_after
   tick_run = refl
 
--- it has the number of both, the outputs of the one and the warning of the other, and it leaves `updatedWords`
+-- it has the number of both, the outputs of the one and the warning of the other, and it leaves `updated_words`
 pub record Together (emit update whole : Answer) : Type 0 where
   pub as_emit : whole.refusal ≡ emit.refusal
   pub as_update : whole.refusal ≡ update.refusal

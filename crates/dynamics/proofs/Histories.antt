@@ -214,6 +214,6 @@ pub answers_wiping : (M : Machine) (A : Account) (told : History → Outputs)
     → ((k : Tick) (w : List ℕ) → Wiping A M w k → M.output w k.time k.inputs ≡ told (wiped k))
     → AnswersWiping M A
 unfolding emit_answer
-answers_wiping M A told at-history on-region w k p h e =
+answers_wiping M A told at_history on_region w k p h e =
     sym (accepted _ _ (tick_refusal M k.time w) (sym p.accepted))
-    ∙ ap emitted (on-region k w p ∙ sym (ap (λ (b : Bool). told (cond b (wiped k) (followed h k))) e) ∙ sym (at-history k h))
+    ∙ ap emitted (on_region k w p ∙ sym (ap (λ (b : Bool). told (cond b (wiped k) (followed h k))) e) ∙ sym (at_history k h))

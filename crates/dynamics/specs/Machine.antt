@@ -67,7 +67,7 @@ module _ (M : Machine) where
   unfoldable pub updated_words : Float → Inputs → List ℕ → List ℕ
   updated_words time i w = accept (tick_refusal time w) (M.after w time i) w
 
-  -- a whole tick, an emit and then an update; it leaves `updatedWords`
+  -- a whole tick, an emit and then an update; it leaves `updated_words`
   unfoldable pub tick_answer : Float → Inputs → List ℕ → Answer
   tick_answer time i w = accept (tick_refusal time w) (answered (M.output w time i) (M.warns w time i)) (silent (tick_refusal time w))
 

@@ -1,4 +1,4 @@
--- An output that lasts for a least time, case by case: what `outputAndTimer` is where the tests before have gone as said. Assumes nothing.
+-- An output that lasts for a least time, case by case: what `output_and_timer` is where the tests before have gone as said. Assumes nothing.
 use mathlib.Core.Path.{◌≡◌}
 use mathlib.Core.Bool.{Bool, true, false, not, beq}
 use lib.Ieee.{Float, binary64, add, le}

@@ -28,15 +28,15 @@ module _ (r : List ℕ) (g : Ring) (h : Stands g) (last : Float) where
 
   pub turned : (b : ℕ) → b ≡ g.head + g.count → g.count ≤ g.capacity → g.capacity < b
       → {y x : Float} → y ≡ climbed (slot_time r) g.head (g.capacity - g.head) last → x ≡ climbed (slot_time r) 0 (b - g.capacity - 0) y → x ≡ climbed (time_at r g) 0 g.count last
-  turned b e most past {y} y-is x-is =
+  turned b e most past {y} y_is x_is =
       let j = g.capacity - g.head in
       let k = b - g.capacity in
       let f = h.first in
       let on = from_head j (omega arith) last in
       let past_turn = stretch k 0 (0 + j) (λ i l. let s = slot_turned g h (0 + j + i) (omega arith) (omega arith) in omega (arith, s)) in
-      x-is
+      x_is
       ∙ ap (λ (m : ℕ). climbed (slot_time r) 0 m y) (omega arith)
       ∙ past_turn y
-      ∙ ap (λ (x : Float). climbed (time_at r g) (0 + j) k x) (y-is ∙ on)
+      ∙ ap (λ (x : Float). climbed (time_at r g) (0 + j) k x) (y_is ∙ on)
       ∙ sym (climbed_split (time_at r g) j k 0 last)
       ∙ ap (λ (m : ℕ). climbed (time_at r g) 0 m last) (omega arith)

@@ -42,7 +42,7 @@ pub agrees : (block : Block) (tick : Tick) (pairs : Bool) (words : List ℕ) (at
     → u ≡ update_agrees block tick region stored expected → u ≡ true
     → tick_agrees block tick (before pairs words at m) stored expected ≡ true → m ≡ n
     → Agrees block tick pairs words at n
-agrees block tick pairs words at n m answers region expected stored e u l s emitted e-holds updated u-holds ticked length =
+agrees block tick pairs words at n m answers region expected stored e u l s emitted e_holds updated u_holds ticked length =
     let old = l.old in
     let new = l.new in
     let told : stored ≡ stored_at words (answers_at pairs words at n) = s ∙ ap (λ (k : ℕ). stored_at words k) l.place in

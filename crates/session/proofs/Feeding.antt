@@ -58,8 +58,8 @@ module _ {st : Stream} {chunk old : List ℕ} {s : Session} {region carry : List
       → at + 32 ≤ length out
       → Goes (line_in region s (take n carry)) s' region' out at next new
       → Running st chunk old s' region' carry 0 new next (i + 1)
-  running_line e {n} n-is {s'} {region'} {next} {new} room g =
-      let same : take n carry ≡ take held carry = ap (λ (m : ℕ). take m carry) n-is ∙ take_least held carry in
+  running_line e {n} n_is {s'} {region'} {next} {new} room g =
+      let same : take n carry ≡ take held carry = ap (λ (m : ℕ). take m carry) n_is ∙ take_least held carry in
       let h : Goes (line_in region s (take held carry)) s' region' out at next new = goes (ap (line_in region s) same) g in
       let fits : at + length (line_in region s (take held carry)).text ≤ length out = omega (arith, line_short region s (take held carry)) in
       let turned : seen s' region' carry 0 new next ≡ line_ends (seen s region carry held out at) = turn h (put_taken fits h.put) in
@@ -75,10 +75,10 @@ module _ {st : Stream} {chunk old : List ℕ} {s : Session} {region carry : List
   -- the byte is held
   pub running_byte : (get_or chunk i 0 ≡ 10 → ⊥) → {held' : ℕ} {carry' : List ℕ} → held' ≡ held_more held → carry' ≡ held_with carry held (get_or chunk i 0)
       → Running st chunk old s region carry' held' out at (i + 1)
-  running_byte no-10 {held'} {carry'} more with_byte =
+  running_byte no_10 {held'} {carry'} more with_byte =
       let kept : seen s region carry' held' out at ≡ byte_held (seen s region carry held out at) (get_or chunk i 0) = rw (more, with_byte) refl in
       record {
-        leads = ap (λ (z : Stream). streamed z (drop (i + 1) chunk)) (kept ∙ sym (byte_stays (seen s region carry held out at) (get_or chunk i 0) no-10)) ∙ next_byte;
+        leads = ap (λ (z : Stream). streamed z (drop (i + 1) chunk)) (kept ∙ sym (byte_stays (seen s region carry held out at) (get_or chunk i 0) no_10)) ∙ next_byte;
         put = r.put;
       }
 

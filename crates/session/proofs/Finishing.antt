@@ -21,7 +21,7 @@ module _ (s : Session) (region carry : List ℕ) (held : ℕ) {old : List ℕ} {
   pub finish_line : 96 ≤ length old → (held ≡ 0 → ⊥) → {n : ℕ} → n ≡ min held (length carry) → {s' : Session} {region' : List ℕ} {next : ℕ} {mid : List ℕ}
       → Goes (line_in region s (take n carry)) s' region' old 0 next mid → Put mid next (closing s') wrote new
       → Finishes (at_hand s region carry held) region' old wrote new
-  finish_line room some {n} n-is {s'} {region'} {next} {mid} g p = over (goes (ap (line_in region s) (ap (λ (m : ℕ). take m carry) n-is ∙ take_least held carry)) g)
+  finish_line room some {n} n_is {s'} {region'} {next} {mid} g p = over (goes (ap (line_in region s) (ap (λ (m : ℕ). take m carry) n_is ∙ take_least held carry)) g)
     where
       over : Goes (line_in region s (take held carry)) s' region' old 0 next mid → Finishes (at_hand s region carry held) region' old wrote new
       over h =

@@ -51,7 +51,7 @@ module _ (region : List ℕ) {nm : Named} where
   module _ (b : Block) (is : nm ≡ named.Block b) (l : Length) (length_is : l ≡ length_answer (machine_of b)) where
     pub open_refused : (l.refusal ≡ 0 → ⊥) → ends region (refusal_text l.refusal) ≡ first_names region nm
     unfolding first_names
-    open_refused no-0 = rw (is, ← length_is, ne_eqb l.refusal 0 no-0)
+    open_refused no_0 = rw (is, ← length_is, ne_eqb l.refusal 0 no_0)
 
     pub open_starts : l.refusal ≡ 0 → first_starts region b l.length ≡ first_names region nm
     unfolding first_names
@@ -93,15 +93,15 @@ module _ (region : List ℕ) (r : Run) (k : Tick) (n : ℕ) (size : n ≡ (lengt
     pub tick_refused : (a.refusal ≡ 0 → ⊥) → {m : ℕ} → m ≡ one_more r.refused
         → went r.accepted m (refusal_text a.refusal) ≡ tick_goes region r k
     unfolding tick_answered
-    tick_refused no-0 e =
-        let t = sym (ne_eqb a.refusal 0 no-0) in
+    tick_refused no_0 e =
+        let t = sym (ne_eqb a.refusal 0 no_0) in
         ap (λ (n' : ℕ). went r.accepted n' (refusal_text a.refusal)) e ∙ ap by_number t ∙ ticks_answer
 
     pub tick_accepted : a.refusal ≡ 0 → {m : ℕ} → m ≡ one_more r.accepted
         → went m r.refused (answer_text r.block a) ≡ tick_goes region r k
     unfolding tick_answered
-    tick_accepted is-0 e =
-        let t = sym (eq-eqb a.refusal 0 is-0) in
+    tick_accepted is_0 e =
+        let t = sym (eq-eqb a.refusal 0 is_0) in
         ap (λ (n' : ℕ). went n' r.refused (answer_text r.block a)) e ∙ ap by_number t ∙ ticks_answer
 
 -- ---- a later line

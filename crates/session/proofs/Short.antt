@@ -35,8 +35,8 @@ block_short (Pid s) = omega arith
 block_short (PidWithReset s) = omega arith
 block_short (MovingAverage delta) = omega arith
 block_short (TimerAccumulating t) = omega arith
-block_short (TrueDelay time on-init) = omega arith
-block_short (TrueFalseHold long-true long-false) = omega arith
+block_short (TrueDelay time on_init) = omega arith
+block_short (TrueFalseHold long_true long_false) = omega arith
 block_short (TrueHoldWithReset duration) = omega arith
 block_short (LogicalVariablePulse period delta least) = omega arith
 
@@ -49,8 +49,8 @@ answer_short (Pid s) a = simp length-append (omega (arith, length_word (word_of 
 answer_short (PidWithReset s) a = simp length-append (omega (arith, length_word (word_of a.real)))
 answer_short (MovingAverage delta) a = simp length-append (omega (arith, length_word (word_of a.real)))
 answer_short (TimerAccumulating t) a = simp length-append (omega (arith, length_word (word_of a.real), length_flag a.boolean))
-answer_short (TrueDelay time on-init) a = simp length-append (omega (arith, length_flag a.boolean))
-answer_short (TrueFalseHold long-true long-false) a = simp length-append (omega (arith, length_flag a.boolean))
+answer_short (TrueDelay time on_init) a = simp length-append (omega (arith, length_flag a.boolean))
+answer_short (TrueFalseHold long_true long_false) a = simp length-append (omega (arith, length_flag a.boolean))
 answer_short (TrueHoldWithReset duration) a = simp length-append (omega (arith, length_flag a.boolean))
 answer_short (LogicalVariablePulse period delta least) a = simp length-append (omega (arith, length_flag a.boolean))
 

@@ -91,8 +91,8 @@ too_long (Pid s) = false
 too_long (PidWithReset s) = false
 too_long (MovingAverage delta) = finite delta && lt (nearest 1024 1) delta
 too_long (TimerAccumulating t) = false
-too_long (TrueDelay time on-init) = false
-too_long (TrueFalseHold long-true long-false) = false
+too_long (TrueDelay time on_init) = false
+too_long (TrueFalseHold long_true long_false) = false
 too_long (TrueHoldWithReset duration) = false
 too_long (LogicalVariablePulse period delta least) = false
 

@@ -1,4 +1,4 @@
--- What `wiped-alike` asks is met by a sheet on two regions that differ, a fresh one and one of garbage words, in which the row above resets the row that is wiped. Assumes nothing.
+-- What `wiped_alike` asks is met by a sheet on two regions that differ, a fresh one and one of garbage words, in which the row above resets the row that is wiped. Assumes nothing.
 use Prim.Native.Nat.{ℕ}
 use native.Mathlib.Omega.{arith}
 use mathlib.Core.Path.{◌≡◌, refl, ap}

@@ -1,4 +1,4 @@
--- What `wiped-alike` asks is met by two regions that differ: a fresh one, and one of garbage words. Assumes nothing.
+-- What `wiped_alike` asks is met by two regions that differ: a fresh one, and one of garbage words. Assumes nothing.
 use mathlib.Core.Path.{◌≡◌, refl, ap}
 use mathlib.Core.Bool.{false}
 use mathlib.Core.List.{List, [], ◌∷◌}

@@ -36,7 +36,7 @@ none_or_set : (p : Previous) (count : ℕ) → (p ≡ Unset → count ≡ 0) →
 none_or_set Unset count f = eq-eqb _ _ (f refl)
 none_or_set (At p) count f = refl
 
--- ---- `isOrdered` is yes exactly when the times are in order
+-- ---- `is_ordered` is yes exactly when the times are in order
 module _ (time : ℕ → Float) (count : ℕ) (p : Previous) where
   pub ordered_means : is_ordered time count p ≡ true → Ordered time count p
   unfolding is_ordered

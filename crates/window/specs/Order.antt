@@ -1,5 +1,5 @@
 -- Request 2 of document 02: when the times of a ring's points are in order. `time n` is the time at ring position n. `Ordered` is what
--- that means; `isOrdered` is the same as a yes or no (`ordered-means`, `means-ordered` of proofs/Orders.antt). Definitions only.
+-- that means; `is_ordered` is the same as a yes or no (`ordered_means`, `means_ordered` of proofs/Orders.antt). Definitions only.
 use Rattle.std.specs.Prelude.{◌≡◌, ℕ, zero, suc, ◌+◌, ◌-◌, ◌<◌, Bool, true, false, not, ◌&&◌, ◌||◌, ◌==◌, Float}
 use Rattle.std.specs.Float.Ieee.{lt}
 use Rattle.std.specs.Float.Ieee.Scale.{finite}

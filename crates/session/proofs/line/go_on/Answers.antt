@@ -1,4 +1,4 @@
--- `line::go_on` meets its contract: each return is a case of `goesOn`. Assumes nothing.
+-- `line::go_on` meets its contract: each return is a case of `goes_on`. Assumes nothing.
 use mathlib.Core.Path.{refl}
 use borrow.Author.Tests.{not-true, not-false}
 use Rattle.session.proofs.Going.{goes, on_bad, on_tick}

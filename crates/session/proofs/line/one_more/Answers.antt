@@ -1,4 +1,4 @@
--- `line::one_more` meets its contract: its test is that of `oneMore`. Assumes nothing.
+-- `line::one_more` meets its contract: its test is that of `one_more`. Assumes nothing.
 use mathlib.Core.Path.{refl}
 use native.Mathlib.Numerals.{add-one}
 use borrow.Author.Tests.{lt-ltb, le-ltb}

@@ -1,4 +1,4 @@
--- `line::open_with` meets its contract: each return is a case of `firstNames`. Assumes nothing.
+-- `line::open_with` meets its contract: each return is a case of `first_names`. Assumes nothing.
 use mathlib.Core.Path.{refl}
 use Rattle.session.proofs.Going.{goes, open_nothing, open_refused, open_starts}
 use Rattle.session.proofs.line.open_with.Goals as goal

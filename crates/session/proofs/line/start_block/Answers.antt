@@ -1,4 +1,4 @@
--- `line::start_block` meets its contract: each return is a case of `firstStarts`. Assumes nothing.
+-- `line::start_block` meets its contract: each return is a case of `first_starts`. Assumes nothing.
 use mathlib.Core.Path.{refl, sym}
 use lib.Seq.{length-take-le}
 use Rattle.session.proofs.Going.{goes, start_tight, start_runs}

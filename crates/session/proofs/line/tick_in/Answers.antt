@@ -1,4 +1,4 @@
--- `line::tick_in` meets its contract: each return is a case of `tickGoes`. Assumes nothing.
+-- `line::tick_in` meets its contract: each return is a case of `tick_goes`. Assumes nothing.
 use mathlib.Core.Path.{◌≡◌, refl, sym, ap}
 use lib.Seq.{length-take-le}
 use Rattle.dynamics.specs.declared.call.Length.{Length}

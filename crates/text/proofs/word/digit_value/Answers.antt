@@ -1,4 +1,4 @@
--- `word::digit_value` meets its contract: each arm is a case of `digitValue`. Assumes nothing.
+-- `word::digit_value` meets its contract: each arm is a case of `digit_value`. Assumes nothing.
 use borrow.Author.Tests.{lt-ltb, le-ltb}
 use Rattle.text.specs.Word.{digit_value}
 use Rattle.text.proofs.word.digit_value.Goals as goal

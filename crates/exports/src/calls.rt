@@ -15,8 +15,7 @@ use reals::word_of_flag;
 use runs::run;
 
 // How many words the block's region has.
-#[unsafe(no_mangle)]
-pub extern "C" fn oven_length(block: u64, settings: &[u64]) -> LengthWords
+pub fn oven_length(block: u64, settings: &[u64]) -> LengthWords
     ensures { result ≡ length_said (named_by block settings.now) }
 {
     let named = block_of(block, settings);
@@ -30,8 +29,7 @@ pub extern "C" fn oven_length(block: u64, settings: &[u64]) -> LengthWords
 }
 
 // Writes the words of a fresh block. The refusal number; 0 is accepted.
-#[unsafe(no_mangle)]
-pub extern "C" fn oven_start(block: u64, settings: &[u64], region: &mut [u64]) -> u64
+pub fn oven_start(block: u64, settings: &[u64], region: &mut [u64]) -> u64
     ensures { Gives (start_number (named_by block settings.now) region.old) (start_left (named_by block settings.now) region.old) result region.new }
 {
     let named = block_of(block, settings);
@@ -42,8 +40,7 @@ pub extern "C" fn oven_start(block: u64, settings: &[u64], region: &mut [u64]) -
 }
 
 // 1 if the region decodes, else 0.
-#[unsafe(no_mangle)]
-pub extern "C" fn oven_sound(block: u64, settings: &[u64], region: &[u64]) -> u64
+pub fn oven_sound(block: u64, settings: &[u64], region: &[u64]) -> u64
     ensures { result ≡ sound_said (named_by block settings.now) region.now }
 {
     let named = block_of(block, settings);
@@ -54,8 +51,7 @@ pub extern "C" fn oven_sound(block: u64, settings: &[u64], region: &[u64]) -> u6
 }
 
 // The region taken apart.
-#[unsafe(no_mangle)]
-pub extern "C" fn oven_decode(block: u64, settings: &[u64], region: &[u64]) -> StateWords
+pub fn oven_decode(block: u64, settings: &[u64], region: &[u64]) -> StateWords
     ensures { result ≡ decode_said (named_by block settings.now) region.now }
 {
     let named = block_of(block, settings);
@@ -66,8 +62,7 @@ pub extern "C" fn oven_decode(block: u64, settings: &[u64], region: &[u64]) -> S
 }
 
 // The outputs as of this tick; nothing is stored.
-#[unsafe(no_mangle)]
-pub extern "C" fn oven_emit(
+pub fn oven_emit(
     block: u64,
     settings: &[u64],
     time: u64,
@@ -86,8 +81,7 @@ pub extern "C" fn oven_emit(
 }
 
 // Stores this tick.
-#[unsafe(no_mangle)]
-pub extern "C" fn oven_update(
+pub fn oven_update(
     block: u64,
     settings: &[u64],
     time: u64,
@@ -106,8 +100,7 @@ pub extern "C" fn oven_update(
 }
 
 // A whole tick, an emit and then an update.
-#[unsafe(no_mangle)]
-pub extern "C" fn oven_tick(
+pub fn oven_tick(
     block: u64,
     settings: &[u64],
     time: u64,
@@ -127,8 +120,7 @@ pub extern "C" fn oven_tick(
 
 // Many whole ticks, the words of each (time and three inputs) one after the other, and so are the words of its answer (those of
 // `AnswerWords`). The refusal number of the run: 13, then 14, then 2 and 3 as of a start; 5, 6 and 7 are each tick's own.
-#[unsafe(no_mangle)]
-pub extern "C" fn oven_run(
+pub fn oven_run(
     block: u64,
     settings: &[u64],
     ticks: &[u64],

@@ -1,4 +1,5 @@
-// The library for C and Rust: the block by its number, settings, times and inputs as words, so that a NaN has one pattern.
+// What the library for C and Rust does (`exports_c` has its names): the block by its number, settings, times and inputs as words, so that a
+// NaN has one pattern.
 #![tactic(auto)]
 
 pub mod boundary;

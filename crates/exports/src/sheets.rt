@@ -165,8 +165,7 @@ fn shown(read: NamedTable) -> Table
 }
 
 // Starts the sheet over these rows. 13 comes first: the words are not whole rows, or a row names no block.
-#[unsafe(no_mangle)]
-pub extern "C" fn oven_sheet_start(rows: &[u64], region: &mut [u64]) -> SheetWords
+pub fn oven_sheet_start(rows: &[u64], region: &mut [u64]) -> SheetWords
     ensures { StartsBy (rows_named rows.now) region.old result region.new }
 {
     let read = table_of(rows);
@@ -177,8 +176,7 @@ pub extern "C" fn oven_sheet_start(rows: &[u64], region: &mut [u64]) -> SheetWor
 }
 
 // One tick of the sheet over these rows. 13 comes first, as for a start.
-#[unsafe(no_mangle)]
-pub extern "C" fn oven_sheet_tick(
+pub fn oven_sheet_tick(
     rows: &[u64],
     time: u64,
     words: &[u64; 8],

@@ -1,0 +1,2 @@
+-- Each call has one result.
+pub mod OneResult

@@ -1,4 +1,4 @@
-//! Links the static library that `rt staticlib exports` writes, or `rt staticlib oven` for the feature `oven`.
+//! Links the static library that `tools/archive exports` writes, or `tools/archive oven` for the feature `oven`.
 use std::{env, path::PathBuf};
 
 fn main() {
@@ -8,7 +8,7 @@ fn main() {
     let folder = here.join("../../target/staticlib");
     let archive = folder.join(format!("lib{name}.a"));
     println!("cargo:rerun-if-changed={}", archive.display());
-    assert!(archive.is_file(), "run `rt staticlib {name}` first");
+    assert!(archive.is_file(), "run `tools/archive {name}` first");
     println!("cargo:rustc-link-search=native={}", folder.display());
     println!("cargo:rustc-link-lib=static={name}");
 }

@@ -1,0 +1,8 @@
+-- `no_answer` refuses with 13. Assumes nothing.
+use mathlib.Core.Path.{ap, ◌∙◌}
+use Rattle.exports.specs.Boundary.{answer_crossed}
+use borrow.Author.Rules.{rules}
+use Rattle.exports.proofs.boundary.no_answer.Goals as goal
+
+pub returns : goal.returns
+returns c = c.answer_words.ensures ∙ ap answer_crossed c.silent.ensures

@@ -1,0 +1,13 @@
+-- `oven_start` is the block's. Assumes nothing.
+use mathlib.Core.Path.{refl}
+use Rattle.exports.specs.Calls.{by_name}
+use borrow.Author.Rules.{rules}
+use Rattle.exports.proofs.calls.oven_start.Goals as goal
+
+pub returns-in_default : goal.returns-in_default
+unfolding by_name
+returns-in_default c = rw (← c.block_of-named.ensures, c.in_default.is) (record { answers = refl; leaves = refl })
+
+pub returns : goal.returns
+unfolding by_name
+returns c = rw (← c.block_of-named.ensures, c.in-Block.is) c.start.ensures

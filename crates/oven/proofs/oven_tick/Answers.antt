@@ -1,7 +1,6 @@
 -- `oven_tick` is a run of one tick. Assumes nothing.
 use Rattle.oven.proofs.Single.{no_tick, one_tick}
 use mathlib.Core.Path.{refl, ap, ◌∙◌}
-use borrow.Author.Rules.{rules}
 use Rattle.exports.specs.Boundary.{answer_crossed}
 use Rattle.oven.proofs.oven_tick.Goals as goal
 

@@ -1,5 +1,4 @@
 -- `boundary::answer_words` is the answer in words. Assumes nothing.
-use borrow.Author.Rules.{rules}
 use Rattle.exports.specs.Boundary.{answer_crossed}
 use Rattle.exports.proofs.boundary.answer_words.Goals as goal
 

@@ -1,7 +1,6 @@
 -- `no_answer` refuses with 13. Assumes nothing.
 use mathlib.Core.Path.{ap, ◌∙◌}
 use Rattle.exports.specs.Boundary.{answer_crossed}
-use borrow.Author.Rules.{rules}
 use Rattle.exports.proofs.boundary.no_answer.Goals as goal
 
 pub returns : goal.returns

@@ -2,7 +2,6 @@
 use mathlib.Core.Path.{refl}
 use Rattle.blocks.specs.Block.{inputs_of}
 use Rattle.exports.specs.Boundary.{three_inputs}
-use borrow.Author.Rules.{rules}
 use Rattle.exports.proofs.boundary.tick_of.Goals as goal
 
 pub returns : goal.returns

@@ -2,7 +2,6 @@
 use mathlib.Core.Path.{ap, ◌∙◌}
 use Rattle.exports.specs.Calls.{by_name}
 use Rattle.exports.specs.Boundary.{answer_crossed}
-use borrow.Author.Rules.{rules}
 use Rattle.exports.proofs.calls.oven_emit.Goals as goal
 
 pub returns-in_default : goal.returns-in_default

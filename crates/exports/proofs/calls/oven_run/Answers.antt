@@ -1,7 +1,6 @@
 -- `oven_run` is the block's. Assumes nothing.
 use mathlib.Core.Path.{refl}
 use Rattle.exports.specs.Calls.{by_name}
-use borrow.Author.Rules.{rules}
 use Rattle.exports.proofs.calls.oven_run.Goals as goal
 
 pub returns-in_default : goal.returns-in_default

@@ -1,7 +1,6 @@
 -- `oven_start` is the block's. Assumes nothing.
 use mathlib.Core.Path.{refl}
 use Rattle.exports.specs.Calls.{by_name}
-use borrow.Author.Rules.{rules}
 use Rattle.exports.proofs.calls.oven_start.Goals as goal
 
 pub returns-in_default : goal.returns-in_default

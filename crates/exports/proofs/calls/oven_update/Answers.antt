@@ -2,7 +2,6 @@
 use mathlib.Core.Path.{refl}
 use Rattle.exports.specs.Calls.{by_name}
 use Rattle.exports.proofs.Answers.{in_words}
-use borrow.Author.Rules.{rules}
 use Rattle.exports.proofs.calls.oven_update.Goals as goal
 
 pub returns-in_default : goal.returns-in_default

@@ -1,5 +1,4 @@
 -- `leaves::oven_floor` is its leaf between words. Assumes nothing.
-use borrow.Author.Rules.{rules}
 use Rattle.exports.proofs.leaves.oven_floor.Goals as goal
 
 pub returns : goal.returns

@@ -1,5 +1,4 @@
 -- `oven_sheet_tick` is the sheet's. Assumes nothing.
-use borrow.Author.Rules.{rules}
 use borrow.Author.Tests.{not-true, not-false}
 use Rattle.exports.proofs.Crossing.{tick_refused, tick_crosses}
 use Rattle.exports.proofs.sheets.oven_sheet_tick.Goals as goal

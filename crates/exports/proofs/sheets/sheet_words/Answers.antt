@@ -1,6 +1,5 @@
 -- `sheet_words` crosses in words. Assumes nothing.
 use Rattle.exports.specs.Sheets.{sheet_crossed}
-use borrow.Author.Rules.{rules}
 use Rattle.exports.proofs.sheets.sheet_words.Goals as goal
 
 pub returns : goal.returns

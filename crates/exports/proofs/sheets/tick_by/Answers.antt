@@ -1,5 +1,4 @@
 -- `tick_by` brings the time and the words. Assumes nothing.
-use borrow.Author.Rules.{rules}
 use Rattle.exports.proofs.sheets.tick_by.Goals as goal
 
 pub returns : goal.returns

@@ -1,5 +1,4 @@
 -- `average_words` has the state's values in order. Assumes nothing.
-use borrow.Author.Rules.{rules}
 use Rattle.exports.proofs.states.average_words.Goals as goal
 
 pub returns : goal.returns

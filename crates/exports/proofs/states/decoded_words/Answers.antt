@@ -1,5 +1,4 @@
 -- `decoded_words` has the state, or the refusal with zeros. Assumes nothing.
-use borrow.Author.Rules.{rules}
 use Rattle.exports.proofs.states.decoded_words.Goals as goal
 
 pub returns-in-State : goal.returns-in-State

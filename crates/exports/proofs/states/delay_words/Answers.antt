@@ -1,5 +1,4 @@
 -- `delay_words` has the state's values in order. Assumes nothing.
-use borrow.Author.Rules.{rules}
 use Rattle.exports.proofs.states.delay_words.Goals as goal
 
 pub returns : goal.returns

@@ -1,5 +1,4 @@
 -- `pulse_words` has the state's values in order. Assumes nothing.
-use borrow.Author.Rules.{rules}
 use Rattle.exports.proofs.states.pulse_words.Goals as goal
 
 pub returns : goal.returns

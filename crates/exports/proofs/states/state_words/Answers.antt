@@ -1,5 +1,4 @@
 -- `state_words` is the one of its kind. Assumes nothing.
-use borrow.Author.Rules.{rules}
 use Rattle.exports.proofs.states.state_words.Goals as goal
 
 pub returns-in-Controller : goal.returns-in-Controller

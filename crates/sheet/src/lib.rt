@@ -39,7 +39,9 @@ pub fn start(rows: &[Row], region: &mut [u64]) -> SheetAnswer
     answer_of(started)
 }
 
-// One tick of the sheet: all rows emit, then all update; their answers are handed out last.
+// One tick of the sheet: all rows emit, then all update; their answers are handed out last. Inlined into a caller whose rows come by value,
+// it has the compiler keep a second copy of them on the stack.
+#[inline(never)]
 pub fn tick(rows: &[Row], tick: Tick, region: &mut [u64], answers: &mut [u64]) -> SheetAnswer
     ensures { SheetTicked tick rows.now region.old answers.old result region.new answers.new }
 {

@@ -68,8 +68,8 @@ abbrev delay : Block
 delay = TrueDelay 2·0 false
 
 -- dir 1, r 1, limits 0 and 1, start 0; td, nd and yd_start have no part in P and PI
-abbrev controller : ControllerType → (k ti ni y◌reset : Float) → ControllerConfig
-controller type k ti ni y◌reset = record {
+abbrev controller : ControllerType → (k ti ni y_reset : Float) → ControllerConfig
+controller type k ti ni y_reset = record {
   controller_type = type;
   k = k;
   ti = ti;
@@ -81,7 +81,7 @@ controller type k ti ni y◌reset = record {
   nd = nearest 10 1;
   xi_start = 0·0;
   yd_start = 0·0;
-  y_reset = y◌reset;
+  y_reset = y_reset;
   reverse_acting = true;
 }
 

@@ -1,7 +1,7 @@
 -- Each public call's contract admits one result only, and one region. Assumes nothing.
 use Rattle.reals.proofs.Once.{Once, OnceLeft, equation_once, first_once}
 use Rattle.dynamics.proofs.Calls.{one_result}
-use Rattle.blocks.proofs.named.block_of.Reads as Block-of
+use Rattle.blocks.proofs.named.block_of.Reads as block_of
 use Rattle.blocks.proofs.state_length.Reads as length
 use Rattle.blocks.proofs.start.Reads as start
 use Rattle.blocks.proofs.sound.Reads as sound
@@ -11,7 +11,7 @@ use Rattle.blocks.proofs.update.Reads as update
 use Rattle.blocks.proofs.tick.Reads as tick
 use Rattle.blocks.proofs.block.answer_words.Reads as answer_words
 
-pub block_of_once : Once Block-of.Post
+pub block_of_once : Once block_of.Post
 block_of_once = equation_once
 
 pub length_once : Once length.Post

@@ -1,6 +1,6 @@
 -- Each public function's contract admits one result only. Assumes nothing.
 use Rattle.reals.proofs.Once.{Once, equation_once}
-use Rattle.reals.proofs.word.real_of.Reads as Real-of
+use Rattle.reals.proofs.word.real_of.Reads as real_of
 use Rattle.reals.proofs.word.word_of.Reads as word_of
 use Rattle.reals.proofs.word.canonical.Reads as canonical
 use Rattle.reals.proofs.word.flag_of.Reads as flag_of
@@ -10,7 +10,7 @@ use Rattle.reals.proofs.rounding.absolute.Reads as absolute
 use Rattle.reals.proofs.rounding.ceil.Reads as ceil
 use Rattle.reals.proofs.rounding.floor.Reads as floor
 
-pub real_of_once : Once Real-of.Post
+pub real_of_once : Once real_of.Post
 real_of_once = equation_once
 
 pub word_of_once : Once word_of.Post

@@ -8,7 +8,7 @@ use Rattle.text.proofs.flag.read_flag.Reads as read_flag
 use Rattle.text.proofs.flag.flag_digit.Reads as flag_digit
 use Rattle.text.proofs.controller_type.read_type.Reads as read_type
 use Rattle.text.proofs.bytes.same.Reads as same
-use Rattle.text.proofs.stretch.end_of.Reads as end_of_lem
+use Rattle.text.proofs.stretch.end_of.Reads as end_of
 use Rattle.text.proofs.decimal.decimal_text.Reads as decimal_text
 
 pub read_word_once : Once read_word.Post
@@ -29,7 +29,7 @@ read_type_once = equation_once
 pub same_once : Once same.Post
 same_once = equation_once
 
-pub end_of_once : Once end_of_lem.Post
+pub end_of_once : Once end_of.Post
 end_of_once = record { alike = λ κs a x y s t p q. p.0 ∙ sym q.0 }
 
 pub decimal_text_once : Once decimal_text.Post

@@ -74,7 +74,7 @@ pub fn next_state(
     let dt = tick_dt(time, previous);
     State {
         integrator: next_integrator(settings, s, terms, dt, trigger),
-        previous: Previous::At(time),
+        previous: Some(time),
         filter: next_filter(settings, s, terms.e, dt),
         trigger,
     }

@@ -1,4 +1,5 @@
 -- A hold as the laws of blocks with a state record take it. Assumes nothing.
+use Rattle.std.specs.Prelude.{None}
 use mathlib.Core.Path.{◌≡◌, refl}
 use mathlib.Core.Bool.{Bool}
 use mathlib.Core.List.{List, []}
@@ -13,7 +14,6 @@ use Rattle.dynamics.specs.Region.{Gives}
 use Rattle.dynamics.specs.Machine.{Machine, start_refusal, tick_refusal, started_words, decode_refusal, decode_answer}
 use Rattle.dynamics.specs.Stepped.{stepped_machine}
 use Rattle.dynamics.specs.declared.call.Inputs.{Inputs}
-use Rattle.dynamics.specs.declared.previous.Previous.TheVariants.{Unset}
 use Rattle.dynamics.proofs.Opening.{Enum, Decodes}
 use Rattle.dynamics.proofs.Steps.{Opens}
 use Rattle.hold.specs.Hold.{state_of, words_of, initial, hold_of, bare, opened, zeros, reads}
@@ -52,7 +52,7 @@ unfolding state_of words_of
 read_back s timer time = simp (real_word s.timer timer, time, flag_back)
 
 -- a fresh one is read back with its previous time unset
-pub fresh_unset : (state_of (words_of initial)).previous ≡ Unset
+pub fresh_unset : (state_of (words_of initial)).previous ≡ None
 unfolding words_of state_of previous_of
 fresh_unset = refl
 

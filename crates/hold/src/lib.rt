@@ -57,7 +57,7 @@ fn init_state() -> State
     State {
         held: false,
         timer: 0.0,
-        previous: Previous::Unset,
+        previous: None,
     }
 }
 

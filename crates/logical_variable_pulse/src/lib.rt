@@ -54,7 +54,7 @@ fn init_state() -> State
         t0: 0.0,
         held: false,
         timer: 0.0,
-        previous: Previous::Unset,
+        previous: None,
     }
 }
 

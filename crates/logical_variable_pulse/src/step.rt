@@ -113,6 +113,6 @@ pub(crate) fn step(settings: LogicalVariablePulse, s: State, time: f64, inputs: 
         t0,
         held: timed.y,
         timer: timed.timer,
-        previous: Previous::At(time),
+        previous: Some(time),
     }
 }

@@ -1,5 +1,5 @@
 -- `MovingAverage` over a region. Definitions only.
-use Rattle.std.specs.Prelude.{◌≡◌, Bool, false, ◌&&◌, cond, List, ◌∷◌, ℕ, ◌+◌, ◌*◌, leb, ltb, get_or, replicate, Float}
+use Rattle.std.specs.Prelude.{◌≡◌, Bool, false, ◌&&◌, cond, List, ◌∷◌, ℕ, ◌+◌, ◌*◌, leb, ltb, get_or, replicate, Float, Some}
 use Rattle.std.specs.Float.Ieee.Scale.{finite}
 use Rattle.reals.specs.Words.{0·0, real_of, word_of, flag_of}
 use Rattle.reals.specs.Arithmetic.{◌⊖◌, ◌⊘◌}
@@ -8,7 +8,6 @@ use Rattle.dynamics.specs.Leaves.{accumulated, rising}
 use Rattle.dynamics.specs.Answer.{real_output}
 use Rattle.dynamics.specs.Machine.{Machine, decode_refusal, Reading}
 use Rattle.dynamics.specs.Stepped.{opened_as}
-use Rattle.dynamics.specs.declared.previous.Previous.TheVariants.{At}
 use Rattle.window.specs.Geometry.{geometry_of}
 use Rattle.window.specs.Mean.{divisor}
 use Rattle.window.specs.Order.{Ordered, is_ordered}
@@ -131,7 +130,7 @@ opened n w = opened_as variant.State Refused n (state_of w)
 
 -- what each case stands for: its number, and the state or the record of zeros
 abbrev pub zeros : State
-zeros = record { mu = 0·0; t_start = 0·0; previous = At 0·0; head = 0; count = 0; coalesced = false }
+zeros = record { mu = 0·0; t_start = 0·0; previous = Some 0·0; head = 0; count = 0; coalesced = false }
 
 abbrev pub reads : Decoded → Reading State
 reads (variant.State s) = record { refusal = 0; state = s }

@@ -1,8 +1,7 @@
 // Whether the times of the ring's points are in order.
-ghost use Rattle.std.specs.Prelude.{◌≡◌, true, ◌+◌, ◌-◌, ◌≤◌, length};
+ghost use Rattle.std.specs.Prelude.{◌≡◌, true, ◌+◌, ◌-◌, ◌≤◌, length, Some};
 ghost use Rattle.std.specs.Float.Ieee.Scale.{finite};
 ghost use Rattle.dynamics.specs.Previous.{sound_previous};
-ghost use Rattle.dynamics.specs.declared.previous.Previous.TheVariants.{At};
 ghost use Rattle.window.specs.Order.{is_ordered};
 ghost use Rattle.window.specs.Walk.{climbed};
 ghost use Rattle.moving_average.specs.Ring.{Stands, Holds, time_at, slot_time};
@@ -55,7 +54,7 @@ fn climb_all(region: &[u64], ring: Ring, last: f64) -> f64
 // Whether the times are in order up to a previous time, which is finite.
 fn ordered_to(region: &[u64], ring: Ring, previous: f64) -> bool
     requires { Holds region.now ring × (finite previous ≡ true) }
-    ensures { result ≡ is_ordered (time_at region.now ring) ring.count (At previous) }
+    ensures { result ≡ is_ordered (time_at region.now ring) ring.count (Some previous) }
 {
     let count = ring.count;
     if count == 0 {
@@ -74,7 +73,7 @@ pub(crate) fn is_ordered(region: &[u64], ring: Ring, previous: Previous) -> bool
     ensures { result ≡ is_ordered (time_at region.now ring) ring.count previous }
 {
     match previous {
-        Previous::Unset => ring.count == 0,
-        Previous::At(then) => ordered_to(region, ring, then),
+        None => ring.count == 0,
+        Some(then) => ordered_to(region, ring, then),
     }
 }

@@ -1,4 +1,5 @@
 -- The controllers as the laws of blocks with a state record take them. Assumes nothing.
+use Rattle.std.specs.Prelude.{None}
 use mathlib.Core.Path.{◌≡◌, refl}
 use mathlib.Core.Bool.{Bool, true, false}
 use mathlib.Core.List.{List, [], ◌∷◌}
@@ -11,7 +12,6 @@ use lib.Ieee.{binary64, fits, of_bits}
 use Rattle.reals.proofs.Words.{real_word, flag_back}
 use Rattle.dynamics.specs.Previous.{previous_of, word_of_previous, sound_previous}
 use Rattle.dynamics.specs.Region.{stored}
-use Rattle.dynamics.specs.declared.previous.Previous.TheVariants.{Unset}
 use Rattle.dynamics.specs.Sound.{StaysSound}
 use Rattle.dynamics.proofs.Opening.{Enum}
 use Rattle.dynamics.proofs.Steps.{Opens}
@@ -67,7 +67,7 @@ module _ (s : State) (integrator : T (fits binary64 s.integrator)) (filter : T (
   read_back Pid false = simp (real_word s.integrator integrator, real_word s.filter filter, time)
 
 -- a fresh one is read back with its previous time unset
-pub fresh_unset : (t : ControllerType) (reset : Bool) (b : ControllerConfig) → (state_of t reset (words_of t reset (initial b))).previous ≡ Unset
+pub fresh_unset : (t : ControllerType) (reset : Bool) (b : ControllerConfig) → (state_of t reset (words_of t reset (initial b))).previous ≡ None
 unfolding words_of state_of previous_of
 fresh_unset P reset b = refl
 fresh_unset Pi reset b = refl

@@ -1,13 +1,11 @@
 -- `Pid` and `PidWithReset` over a region: one core, two machines. Definitions only.
-use Rattle.std.specs.Prelude.{ℕ, Bool, true, false, ◌&&◌, cond, List, [], ◌∷◌, get_or, Float}
+use Rattle.std.specs.Prelude.{ℕ, Bool, true, false, ◌&&◌, cond, List, [], ◌∷◌, get_or, Float, None, Some}
 use Rattle.reals.specs.Words.{0·0, real_of, word_of, flag_of, word_of_flag}
-use Rattle.dynamics.specs.Previous.{previous_of, word_of_previous}
+use Rattle.dynamics.specs.Previous.{previous_of, word_of_previous, Previous}
 use Rattle.dynamics.specs.Answer.{Outputs, real_output}
 use Rattle.dynamics.specs.Machine.{Machine, Reading}
 use Rattle.dynamics.specs.Stepped.{Stepped, stepped_machine, opened_as}
 use Rattle.dynamics.specs.declared.call.Inputs.{Inputs}
-use Rattle.dynamics.specs.declared.previous.Previous.{Previous}
-use Rattle.dynamics.specs.declared.previous.Previous.TheVariants.{Unset, At}
 use Rattle.controller.specs.Settings.{settings_accepted}
 use Rattle.controller.specs.Recurrence.{terms_of, next_state}
 use Rattle.controller.specs.declared.config.ControllerType.{ControllerType}
@@ -34,7 +32,7 @@ parts integrator previous filter trigger = record { integrator = integrator; pre
 
 -- a part that the type lacks is 0.0, unset or false
 unfoldable pub state_of : ControllerType → Bool → List ℕ → State
-state_of P reset w = parts 0·0 Unset 0·0 false
+state_of P reset w = parts 0·0 None 0·0 false
 state_of Pi reset w = parts (real_of (get_or w 0 0)) (previous_of (get_or w 1 0)) 0·0 (reset && flag_of (get_or w 2 0))
 state_of Pd reset w = parts 0·0 (previous_of (get_or w 0 0)) (real_of (get_or w 1 0)) false
 state_of Pid reset w = parts (real_of (get_or w 0 0)) (previous_of (get_or w 1 0)) (real_of (get_or w 2 0)) (reset && flag_of (get_or w 3 0))
@@ -53,7 +51,7 @@ words_of Pid reset s = word_of s.integrator ∷ word_of_previous s.previous ∷ 
 
 -- integrator at xi_start, previous time unset; the rest zero
 abbrev pub initial : ControllerConfig → State
-initial b = parts b.xi_start Unset 0·0 false
+initial b = parts b.xi_start None 0·0 false
 
 -- a tick's inputs are its words; without reset no trigger is heard
 unfoldable pub heard : Bool → Inputs → Heard
@@ -85,7 +83,7 @@ opened reset b n w = opened_as variant.State Refused n (state_of b.controller_ty
 
 -- what each case stands for: its number, and the state or the record of zeros
 abbrev pub zeros : State
-zeros = parts 0·0 (At 0·0) 0·0 false
+zeros = parts 0·0 (Some 0·0) 0·0 false
 
 abbrev pub reads : Decoded → Reading State
 reads (variant.State s) = record { refusal = 0; state = s }

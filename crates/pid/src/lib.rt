@@ -26,7 +26,7 @@ fn init_state(settings: ControllerConfig) -> State
 {
     State {
         integrator: settings.xi_start,
-        previous: Previous::Unset,
+        previous: None,
         filter: 0.0,
         trigger: false,
     }

@@ -45,7 +45,7 @@ pub(crate) fn state_of(region: &[u64], settings: ControllerConfig, with_reset: b
     match controller_type {
         ControllerType::P => State {
             integrator: 0.0,
-            previous: Previous::Unset,
+            previous: None,
             filter: 0.0,
             trigger: false,
         },

@@ -1,5 +1,5 @@
 -- `TimerAccumulating`: accumulated true-time, cleared by a rising reset. Definitions only.
-use Rattle.std.specs.Prelude.{ℕ, Bool, true, false, not, ◌&&◌, cond, List, [], ◌∷◌, get_or, Float}
+use Rattle.std.specs.Prelude.{ℕ, Bool, true, false, not, ◌&&◌, cond, List, [], ◌∷◌, get_or, Float, None, Some}
 use Rattle.std.specs.Float.Ieee.{le}
 use Rattle.std.specs.Float.Ieee.Scale.{finite}
 use Rattle.reals.specs.Words.{0·0, real_of, word_of, flag_of, word_of_flag}
@@ -10,7 +10,6 @@ use Rattle.dynamics.specs.Answer.{Outputs, both_outputs}
 use Rattle.dynamics.specs.Machine.{Machine, Reading}
 use Rattle.dynamics.specs.Stepped.{Stepped, stepped_machine, opened_as}
 use Rattle.dynamics.specs.declared.call.Inputs.{Inputs}
-use Rattle.dynamics.specs.declared.previous.Previous.TheVariants.{Unset, At}
 use Rattle.timer_accumulating.specs.declared.TimerAccumulating.{TimerAccumulating}
 use Rattle.timer_accumulating.specs.declared.state.State.{State}
 use Rattle.timer_accumulating.specs.declared.state.Decoded.{Decoded}
@@ -43,7 +42,7 @@ unfoldable pub next : TimerAccumulating → State → Float → Bool → Bool �
 next b s time input reset =
     let wipes = rising reset s.reset in
     let y = y_now s time input wipes in
-    record { total = y; previous = At time; input = input; reset = reset; passed = passed_now b s input wipes y }
+    record { total = y; previous = Some time; input = input; reset = reset; passed = passed_now b s input wipes y }
 
 -- a tick's two inputs are its first words
 unfoldable pub advance : TimerAccumulating → State → Float → Inputs → State
@@ -70,7 +69,7 @@ settings_accepted b = finite b.t
 
 -- passed is t <= 0; the rest zero
 abbrev pub initial : TimerAccumulating → State
-initial b = record { total = 0·0; previous = Unset; input = false; reset = false; passed = le b.t 0·0 }
+initial b = record { total = 0·0; previous = None; input = false; reset = false; passed = le b.t 0·0 }
 
 -- the outputs of a tick are the total and passed after it
 abbrev pub outputs : State → Outputs
@@ -98,7 +97,7 @@ opened n w = opened_as variant.State Refused n (state_of w)
 
 -- what each case stands for: its number, and the state or the record of zeros
 abbrev pub zeros : State
-zeros = record { total = 0·0; previous = At 0·0; input = false; reset = false; passed = false }
+zeros = record { total = 0·0; previous = Some 0·0; input = false; reset = false; passed = false }
 
 abbrev pub reads : Decoded → Reading State
 reads (variant.State s) = record { refusal = 0; state = s }

@@ -36,7 +36,7 @@ fn init_state(settings: TimerAccumulating) -> State
 {
     State {
         total: 0.0,
-        previous: Previous::Unset,
+        previous: None,
         input: false,
         reset: false,
         passed: settings.t <= 0.0,

@@ -55,7 +55,7 @@ pub(crate) fn step(settings: TimerAccumulating, s: State, time: f64, inputs: Inp
     let y = y_now(s, time, input, wipes);
     State {
         total: y,
-        previous: Previous::At(time),
+        previous: Some(time),
         input,
         reset,
         passed: passed_now(settings, s, input, wipes, y),

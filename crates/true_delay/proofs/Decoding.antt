@@ -1,4 +1,5 @@
 -- `TrueDelay` as the laws of blocks with a state record take it. Assumes nothing.
+use Rattle.std.specs.Prelude.{None}
 use mathlib.Core.Path.{◌≡◌, refl}
 use mathlib.Core.List.{[]}
 use Prim.Native.Nat.{ℕ}
@@ -8,7 +9,6 @@ use lib.Dec.{T}
 use lib.Ieee.{binary64, fits, of_bits}
 use Rattle.reals.proofs.Words.{real_word, flag_back}
 use Rattle.dynamics.specs.Previous.{previous_of, word_of_previous}
-use Rattle.dynamics.specs.declared.previous.Previous.TheVariants.{Unset}
 use Rattle.dynamics.specs.Sound.{StaysSound}
 use Rattle.dynamics.proofs.Opening.{Enum}
 use Rattle.dynamics.proofs.Steps.{Opens}
@@ -50,7 +50,7 @@ unfolding state_of words_of
 read_back s timer time = simp (real_word s.timer timer, time, flag_back)
 
 -- a fresh one is read back with its previous time unset
-pub fresh_unset : (b : TrueDelay) → (state_of (words_of (initial))).previous ≡ Unset
+pub fresh_unset : (b : TrueDelay) → (state_of (words_of (initial))).previous ≡ None
 unfolding words_of state_of previous_of
 fresh_unset b = refl
 

@@ -37,7 +37,7 @@ fn init_state() -> State
 {
     State {
         timer: 0.0,
-        previous: Previous::Unset,
+        previous: None,
         input: false,
         held: false,
     }

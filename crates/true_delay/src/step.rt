@@ -65,7 +65,7 @@ pub(crate) fn step(settings: TrueDelay, s: State, time: f64, inputs: Inputs) -> 
     let timed = output_and_timer(settings, s, time, input);
     State {
         timer: timed.timer,
-        previous: Previous::At(time),
+        previous: Some(time),
         input,
         held: timed.y,
     }

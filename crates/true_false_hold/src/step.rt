@@ -26,6 +26,6 @@ pub(crate) fn step(settings: TrueFalseHold, s: State, time: f64, inputs: Inputs)
     State {
         held: timed.y,
         timer: timed.timer,
-        previous: Previous::At(time),
+        previous: Some(time),
     }
 }

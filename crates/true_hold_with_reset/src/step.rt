@@ -69,6 +69,6 @@ pub(crate) fn step(settings: TrueHoldWithReset, s: State, time: f64, inputs: Inp
     State {
         held: timed.y,
         timer: timed.timer,
-        previous: Previous::At(time),
+        previous: Some(time),
     }
 }

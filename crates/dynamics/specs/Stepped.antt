@@ -1,8 +1,8 @@
--- A block whose words are a state record, and whose update is one step of it. Definitions only.
-use Rattle.std.specs.Prelude.{ℕ, Bool, false, List, Float}
+-- A block whose words are a state record, and whose update is one step of it. Definitions, and one fact.
+use Rattle.std.specs.Prelude.{ℕ, Bool, false, List, Float, refl}
 use Rattle.dynamics.specs.Previous.{sound_previous, Previous}
 use Rattle.dynamics.specs.Answer.{Outputs}
-use Rattle.dynamics.specs.Machine.{Machine}
+use Rattle.dynamics.specs.Machine.{Machine, Told}
 use Rattle.dynamics.specs.declared.call.Inputs.{Inputs}
 
 -- A block with its settings, told by its states S.
@@ -33,3 +33,8 @@ stepped_machine B = record {
   warns = λ w time i. false;
   after = λ w time i. B.words_of (B.advance (B.state_of w) time i);
 }
+
+-- what its state tells of its words
+pub stepped_told : {S : Type 0} (B : Stepped S) → Told (stepped_machine B) B.state_of (λ s. sound_previous (B.previous s)) B.previous
+unfolding stepped_machine
+stepped_told B = record { by_decodes = λ w. refl; by_previous = λ w. refl; sound_decodes = λ w e. e }

@@ -7,6 +7,7 @@ pub mod leaf;
 pub mod previous;
 pub mod refusal;
 pub mod region;
+pub mod stepped;
 
 pub use call::{
     Answer, Inputs, Length, boolean_answer, both_answer, length_answer, real_answer, silent,
@@ -23,3 +24,4 @@ pub use previous::{
 };
 pub use refusal::{Refusal, number_of};
 pub use region::{clear, flag_at, previous_at, real_at, store, word_at};
+pub use stepped::{Step, SteppedBlock};

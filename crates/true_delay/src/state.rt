@@ -1,7 +1,7 @@
 // The delay's state, and its four words in a region.
 ghost use Rattle.std.specs.Prelude.{◌≡◌};
 ghost use Rattle.dynamics.specs.Region.{stored};
-ghost use Rattle.true_delay.specs.TrueDelay.{state_of, words_of, reads};
+ghost use Rattle.true_delay.specs.TrueDelay.{state_of, words_of};
 
 use dynamics::{Previous, flag_at, previous_at, real_at, store, word_of_previous};
 use reals::{word_of, word_of_flag};
@@ -27,23 +27,6 @@ pub struct State {
     pub held: bool,
 }
 
-// A region taken apart: its state, or why it has none.
-#[derive(Clone, Copy)]
-pub enum Decoded {
-    State(State),
-    Refused(u64),
-}
-
-// The refusal number; 0 for a state.
-pub fn number_of(d: Decoded) -> u64
-    ensures { result ≡ (reads d).refusal }
-{
-    match d {
-        Decoded::State(_) => 0,
-        Decoded::Refused(n) => n,
-    }
-}
-
 // What a region's words mean.
 pub(crate) fn state_of(region: &[u64]) -> State
     ensures { result ≡ state_of region.now }
@@ -60,10 +43,9 @@ pub(crate) fn state_of(region: &[u64]) -> State
 pub(crate) fn write(region: &mut [u64], s: State)
     ensures { region.new ≡ stored region.old (words_of s) }
 {
-    let previous = s.previous;
     let words = [
         word_of(s.timer),
-        word_of_previous(previous),
+        word_of_previous(s.previous),
         word_of_flag(s.input),
         word_of_flag(s.held),
     ];

@@ -1,10 +1,10 @@
 -- `Pid` and `PidWithReset` over a region: one core, two machines. Definitions only.
-use Rattle.std.specs.Prelude.{ℕ, Bool, true, false, ◌&&◌, cond, List, [], ◌∷◌, get_or, Float, None, Some}
+use Rattle.std.specs.Prelude.{ℕ, ◌≡◌, refl, length, Bool, true, false, ◌&&◌, cond, List, [], ◌∷◌, get_or, Float, None, Some}
 use Rattle.reals.specs.Words.{0·0, real_of, word_of, flag_of, word_of_flag}
 use Rattle.dynamics.specs.Previous.{previous_of, word_of_previous, Previous}
 use Rattle.dynamics.specs.Answer.{Outputs, real_output}
-use Rattle.dynamics.specs.Machine.{Machine, Reading}
-use Rattle.dynamics.specs.Stepped.{Stepped, stepped_machine, opened_as}
+use Rattle.dynamics.specs.Machine.{Machine}
+use Rattle.dynamics.specs.Stepped.{Stepped, stepped_machine}
 use Rattle.dynamics.specs.declared.call.Inputs.{Inputs}
 use Rattle.controller.specs.Settings.{settings_accepted}
 use Rattle.controller.specs.Recurrence.{terms_of, next_state}
@@ -14,9 +14,6 @@ use Rattle.controller.specs.declared.config.ControllerConfig.{ControllerConfig}
 use Rattle.controller.specs.declared.recurrence.State.{State}
 use Rattle.controller.specs.declared.recurrence.Heard.{Heard}
 use Rattle.controller.specs.declared.recurrence.Terms.{Terms}
-use Rattle.pid.specs.declared.state.Decoded.{Decoded}
-use Rattle.pid.specs.declared.state.Decoded.TheVariants.{Refused}
-use Rattle.pid.specs.declared.state.Decoded.TheVariants as variant
 
 -- ---- the words. P: none. PI: integrator, previous time. PD: previous time, filter. PID: integrator, previous time, filter.
 -- With reset, PI and PID add the previous trigger last; P and PD add nothing
@@ -76,15 +73,16 @@ block reset b = record {
 abbrev pub machine : Bool → ControllerConfig → Machine
 machine reset b = stepped_machine (block reset b)
 
--- ---- a region taken apart, by the refusal number of the call
+-- a state has as many words as its type keeps
+pub counted : (t : ControllerType) (reset : Bool) (s : State) → length (words_of t reset s) ≡ state_length t reset
+unfolding words_of
+counted P reset s = refl
+counted Pi true s = refl
+counted Pi false s = refl
+counted Pd reset s = refl
+counted Pid true s = refl
+counted Pid false s = refl
 
-abbrev pub opened : Bool → ControllerConfig → ℕ → List ℕ → Decoded
-opened reset b n w = opened_as variant.State Refused n (state_of b.controller_type reset w)
-
--- what each case stands for: its number, and the state or the record of zeros
+-- the record of zeros, for which a refused decode stands: one for all types
 abbrev pub zeros : State
 zeros = parts 0·0 (Some 0·0) 0·0 false
-
-abbrev pub reads : Decoded → Reading State
-reads (variant.State s) = record { refusal = 0; state = s }
-reads (Refused n) = record { refusal = n; state = zeros }

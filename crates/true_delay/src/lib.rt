@@ -5,13 +5,12 @@ mod state;
 mod step;
 
 ghost use Rattle.true_delay.specs.TrueDelay.{block, counted, zeros};
-ghost use Rattle.std.specs.Prelude.{refl};
 
-use dynamics::{Inputs, Previous, Step, SteppedBlock, boolean_answer};
-use reals::is_finite;
+use dynamics::{Inputs, Previous, Step, SteppedBlock, boolean_answer, flag_at, previous_at, real_at, store, word_of_previous};
+use reals::{is_finite, word_of, word_of_flag};
 pub use state::{STATE_LEN, State};
-use state::{state_of, write};
-use step::step;
+use state::{TIMER_WORD, PREV_T_WORD, PREV_U_WORD, HELD_WORD};
+use step::advance;
 
 // How long a true input waits, and whether one on the first tick waits too.
 #[derive(Clone, Copy)]
@@ -46,12 +45,25 @@ impl SteppedBlock for TrueDelay {
         }
     }
 
+    #[tactic(auto, unfolding(crate::specs::TrueDelay::state_of))]
     fn read(self, region: &[u64]) -> State {
-        state_of(region)
+        State {
+            timer: real_at(region, TIMER_WORD),
+            previous: previous_at(region, PREV_T_WORD),
+            input: flag_at(region, PREV_U_WORD),
+            held: flag_at(region, HELD_WORD),
+        }
     }
 
+    #[tactic(auto, unfolding(crate::specs::TrueDelay::words_of))]
     fn write(self, region: &mut [u64], s: State) {
-        write(region, s);
+        let words = [
+            word_of(s.timer),
+            word_of_previous(s.previous),
+            word_of_flag(s.input),
+            word_of_flag(s.held),
+        ];
+        store(region, &words);
     }
 
     fn previous(self, s: State) -> Previous {
@@ -59,7 +71,7 @@ impl SteppedBlock for TrueDelay {
     }
 
     fn step(self, s: State, time: f64, inputs: Inputs) -> Step<State> {
-        let after = step(self, s, time, inputs);
+        let after = advance(self, s, time, inputs);
         Step {
             answer: boolean_answer(after.held),
             after,

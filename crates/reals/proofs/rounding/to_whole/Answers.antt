@@ -1,5 +1,6 @@
 -- `rounding::to_whole` meets its contract: its returns are the ways that the comparisons can go. Assumes nothing.
-use mathlib.Core.Path.{refl}
+use mathlib.Core.Path.{ap}
+use mathlib.Core.Bool.{not}
 use borrow.Author.Rules.{rules}
 use lib.Ieee.{of_bits}
 use Rattle.reals.proofs.Beside.{way, large_stays, zero_stays, below_zero, above_zero, less_below, more_below, kept_below, more_above, less_above, kept_above}
@@ -9,7 +10,7 @@ pub returns-then-not-size : goal.returns-then-not-size
 unfolding of_bits
 returns-then-not-size c = let entry = c.args in
     let size = c.size_of-size in
-    large_stays (way entry.up) entry.x size.result size.ensures (search rules) (rw c.if-not-size.true refl)
+    large_stays (way entry.up) entry.x size.result size.ensures (search rules) (ap not c.if-not-size.true)
 
 pub returns-then-up-near : goal.returns-then-up-near
 unfolding of_bits

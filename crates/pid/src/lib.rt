@@ -12,7 +12,7 @@ ghost use Rattle.controller.specs.Recurrence.{terms_of, next_state};
 ghost use Rattle.pid.specs.Pid.{state_length, state_of, words_of, initial, heard, machine, opened, zeros, reads};
 
 pub use controller::{ControllerConfig, ControllerType, State};
-use controller::{Heard, Terms, current_terms, next_state, settings_accepted};
+use controller::{Heard, Terms};
 use dynamics::{
     Answer, Inputs, Length, Previous, form_refusal, length_answer, previous_sound, real_answer,
     silent, time_refusal,
@@ -47,7 +47,7 @@ fn heard(with_reset: bool, inputs: Inputs) -> Heard
 pub fn state_length(settings: ControllerConfig, with_reset: bool) -> Length
     ensures { result ≡ length_answer (machine with_reset settings) }
 {
-    length_answer(settings_accepted(settings), state_len(settings, with_reset))
+    length_answer(settings.accepted(), state_len(settings, with_reset))
 }
 
 // Tests 2 and 3: the settings are accepted, so many words are the state's.
@@ -55,7 +55,7 @@ fn form(settings: ControllerConfig, with_reset: bool, length: usize) -> u64
     ensures { result ≡ form_refusal (settings_accepted settings) (eqb length (state_length settings.controller_type with_reset)) }
 {
     form_refusal(
-        settings_accepted(settings),
+        settings.accepted(),
         length == state_len(settings, with_reset),
     )
 }
@@ -127,7 +127,7 @@ pub fn emit(
     let Decoded::State(s) = met else {
         return silent(number_of(met));
     };
-    let terms = current_terms(settings, s, heard(with_reset, inputs));
+    let terms = settings.current_terms(s, heard(with_reset, inputs));
     real_answer(terms.y)
 }
 
@@ -143,12 +143,12 @@ fn step(
     ensures { Gives (terms_of settings s (heard with_reset inputs)) (stored region.old (words_of settings.controller_type with_reset (next_state settings s time (heard with_reset inputs)))) result region.new }
 {
     let now = heard(with_reset, inputs);
-    let terms = current_terms(settings, s, now);
+    let terms = settings.current_terms(s, now);
     write(
         region,
         settings,
         with_reset,
-        next_state(settings, s, terms, time, now.trigger),
+        settings.next_state(s, terms, time, now.trigger),
     );
     terms
 }

@@ -2,4 +2,4 @@
 use Rattle.pid.proofs.form.Goals as goal
 
 pub returns : goal.returns
-returns c = rw (← c.settings_accepted.ensures, ← c.state_len.ensures) c.form_refusal.ensures
+returns c = rw (← c.accepted.ensures, ← c.state_len.ensures) c.form_refusal.ensures

@@ -5,4 +5,4 @@ use Rattle.pid.proofs.state_length.Goals as goal
 
 pub returns : goal.returns
 unfolding length_answer stepped_machine
-returns c = simp (c.length_answer.ensures, c.state_len.ensures, c.settings_accepted.ensures)
+returns c = simp (c.length_answer.ensures, c.state_len.ensures, c.accepted.ensures)

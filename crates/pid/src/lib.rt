@@ -7,7 +7,7 @@ ghost use Rattle.std.specs.Prelude.{◌≡◌};
 ghost use Rattle.pid.specs.Pid.{block, counted, heard, zeros};
 
 pub use controller::{ControllerConfig, ControllerType, State};
-use controller::{Heard, current_terms, next_state, settings_accepted};
+use controller::Heard;
 use dynamics::{Inputs, Previous, Step, SteppedBlock, real_answer};
 use reals::{flag_of, real_of};
 use state::{size, state_of, write};
@@ -43,7 +43,7 @@ impl SteppedBlock for Controller {
     ghost counted = { λ c. counted c.settings.controller_type c.with_reset };
 
     fn is_accepted(self) -> bool {
-        settings_accepted(self.settings)
+        self.settings.accepted()
     }
 
     fn size(self) -> usize {
@@ -74,10 +74,10 @@ impl SteppedBlock for Controller {
     // The output is of the integrator before the tick.
     fn step(self, s: State, time: f64, inputs: Inputs) -> Step<State> {
         let now = self.heard(inputs);
-        let terms = current_terms(self.settings, s, now);
+        let terms = self.settings.current_terms(s, now);
         Step {
             answer: real_answer(terms.y),
-            after: next_state(self.settings, s, terms, time, now.trigger),
+            after: self.settings.next_state(s, terms, time, now.trigger),
         }
     }
 }

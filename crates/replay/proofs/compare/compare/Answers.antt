@@ -7,12 +7,12 @@ use Rattle.replay.proofs.LayingOut.{laid_at}
 use Rattle.replay.proofs.compare.compare.Goals as goal
 
 pub stored_at-stored-requires : goal.stored_at-stored-requires
-stored_at-stored-requires c = (laid_at _ _ _ _ _ _ _ _ c.in-At.is c.lay_out-laid.ensures).within
+stored_at-stored-requires c = (laid_at _ _ _ _ _ _ _ _ c.in-Some.is c.lay_out-laid.ensures).within
 
 pub returns : goal.returns
 returns c =
     agrees _ _ _ _ _ (length c.args.region.now) (length c.updates.new.region) _ _ _ _ _ _
-    (laid_at _ _ _ _ _ _ _ _ c.in-At.is c.lay_out-laid.ensures)
+    (laid_at _ _ _ _ _ _ _ _ c.in-Some.is c.lay_out-laid.ensures)
     c.stored_at-stored.ensures
     c.emits.ensures
     (not-false _ c.if-not-emits.false-raw)

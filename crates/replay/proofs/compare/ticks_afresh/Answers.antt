@@ -7,4 +7,4 @@ pub returns-in_default : goal.returns-in_default
 returns-in_default c = λ e. never_true _ e
 
 pub returns : goal.returns
-returns c = λ e. ticked_afresh _ _ _ _ _ (length c.args.region.now) _ _ _ _ _ _ c.in-At.is c.put_afresh-again.ensures c.ticks.ensures e
+returns c = λ e. ticked_afresh _ _ _ _ _ (length c.args.region.now) _ _ _ _ _ _ c.in-Some.is c.put_afresh-again.ensures c.ticks.ensures e

@@ -123,15 +123,15 @@ units (Ok x) (Err r) e = absurd (some_number r (sym e))
 units (Err r) (Ok x) e = absurd (some_number r e)
 units (Err q) (Err r) e = ap Err (same_refusal q r e)
 
-numbered_once : {K : Type 0} {D : K → Type 0} {E : K → Type 0} {f : (κs : K) → D κs → ℕ}
+pub numbered_once : {K : Type 0} {D : K → Type 0} {E : K → Type 0} {f : (κs : K) → D κs → ℕ}
     → Once {K = K} {D = D} {R = Result (Unit {0}) Refusal} {E = E} (λ κs a r e. number_of r ≡ f κs a)
 numbered_once = record { alike = λ κs a x y s t p q. units x y (p ∙ sym q) }
 
-brings_once : {K : Type 0} {D : K → Type 0} {X : Type 0} {E : K → Type 0} {f : (κs : K) → D κs → ℕ} {g : (κs : K) → D κs → X}
+pub brings_once : {K : Type 0} {D : K → Type 0} {X : Type 0} {E : K → Type 0} {f : (κs : K) → D κs → ℕ} {g : (κs : K) → D κs → X}
     → Once {K = K} {D = D} {R = Result X Refusal} {E = E} (λ κs a r e. Brings (f κs a) (g κs a) r)
 brings_once = record { alike = λ κs a x y s t p q. one_brought x y p q }
 
-first_brings_once : {K : Type 0} {D : K → Type 0} {X : Type 0} {E : K → Type 0} {f : (κs : K) → D κs → ℕ} {g : (κs : K) → D κs → X}
+pub first_brings_once : {K : Type 0} {D : K → Type 0} {X : Type 0} {E : K → Type 0} {f : (κs : K) → D κs → ℕ} {g : (κs : K) → D κs → X}
     {More : (κs : K) → D κs → Result X Refusal → E κs → Type 0}
     → Once {K = K} {D = D} {R = Result X Refusal} {E = E} (λ κs a r e. Brings (f κs a) (g κs a) r × More κs a r e)
 first_brings_once = record { alike = λ κs a x y s t p q. one_brought x y p.0 q.0 }

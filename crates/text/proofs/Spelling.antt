@@ -1,13 +1,14 @@
 -- A number spelled from its last digit on.
-use Prim.Native.Nat.{ℕ, zero, suc, ◌+◌, ◌-◌, ◌/◌, ◌%◌, ◌^◌, ◌≤◌, ◌<◌}
+use Prim.Native.Nat.{ℕ, zero, suc, ◌+◌, ◌-◌, ◌/◌, ◌%◌, ◌^◌, ◌<◌}
 use mathlib.Core.Path.{◌≡◌, refl, sym, ap, subst, ◌∙◌}
 use mathlib.Core.List.{List, ◌∷◌, ◌++◌, append-nil}
 use native.Mathlib.Nat.{pow-suc}
 use native.Mathlib.Omega.{arith}
-use lib.ListN.{length, take, drop, set, replicate, length-set, length-drop, length-take, length-replicate, take-append-drop}
+use lib.ListN.{length, take, drop, set, replicate, length-set, length-drop}
 use lib.Seq.{append_snoc, drop-cons, drop-set-lt, lt-length-set, get_or-set_same, take-set-le, take-take}
 use Rattle.text.specs.declared.decimal.Decimal.TheInside.{Inside}
 use Rattle.text.specs.Decimal.{decimal_of, decimal_text, counting, Padded, Spelled}
+use Rattle.text.proofs.Padding.{padded_start}
 use Rattle.text.proofs.Decimals.{decimal_few, decimal_more}
 
 -- of twenty places those from `start` on are spelled, and before them come zeros and the digits of `rest`
@@ -84,14 +85,10 @@ spelling_room s none = omega (arith, rw none at s.room, s.some (omega arith))
 
 -- ---- what holds of every value of the type
 
--- the first digit that counts has a place, or the end
-pub padded_start : {d : Inside} → Padded d → d.start ≤ 20
-padded_start {d} p = omega (arith, ap length p.zeros, length-take {A = ℕ} d.start d.digits, length-replicate {A = ℕ} d.start 48, p.all)
-
 -- if the digits that count are those of n, they stand behind zeros, twenty in all
 pub spelled : {n : ℕ} {d : Inside} → Padded d → counting d ≡ decimal_text n → Spelled n d
 spelled {n} {d} p is = record {
-  digits = sym (take-append-drop d.start d.digits) ∙ rw (p.zeros, is);
+  digits = sym (ap (λ (e : Inside). e.digits) p.again) ∙ ap (λ (k : ℕ). replicate k 48 ++ counting d) (padded_start p) ∙ rw is;
   all = omega (arith, ap length is, length-drop d.start d.digits, p.all, padded_start p);
 }
 

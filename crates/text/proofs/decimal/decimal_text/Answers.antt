@@ -1,6 +1,7 @@
 -- `decimal::decimal_text` meets its contract: the digits from `start` on are spelled, those of `rest` are still to be. Assumes nothing.
 use native.Mathlib.Omega.{arith}
 use lib.ListN.{length-set}
+use Rattle.text.proofs.Padding.{zeros_padded}
 use Rattle.text.proofs.Spelling.{spelling_none, spelling_left, spelling_next, spelling_last, spelling_zeros, spelling_room}
 use Rattle.text.proofs.decimal.decimal_text.Goals as goal
 
@@ -10,7 +11,7 @@ loop-start-init c = spelling_none c.args.n c.ranges.n.fits
 pub invariant_of-result : goal.invariant_of-result
 invariant_of-result c =
     let s = c.loop-start.invariant in
-    record { zeros = spelling_zeros (spelling_left s c.loop-start-test.true) (omega arith); all = simp length-set s.size }
+    zeros_padded (spelling_zeros (spelling_left s c.loop-start-test.true) (omega arith)) (simp length-set s.size)
 
 pub returns-then-rest-eq0 : goal.returns-then-rest-eq0
 returns-then-rest-eq0 c = spelling_last (spelling_left c.loop-start.invariant c.loop-start-test.true) (omega arith) c.if-rest-eq0.true

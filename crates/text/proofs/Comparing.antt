@@ -70,20 +70,3 @@ same_apart a b i n = go (same_list a b) refl
     go : (t : Bool) → same_list a b ≡ t → t ≡ false
     go true e = let same = same_equal a b e in absurd (n (ap (λ (l : List ℕ). get_or l i 0) same))
     go false e = refl
-
--- a list is the same as itself
-pub same_self : (a : List ℕ) → same_list a a ≡ true
-unfolding same_list
-same_self [] = refl
-same_self (x ∷ a) = rw (eq-eqb x x refl) (same_self a)
-
--- of one element: whether it is that one
-pub same_one : (s : List ℕ) (x : ℕ) → length s ≡ 1 → same_list s (x ∷ []) ≡ eqb (get_or s 0 0) x
-unfolding same_list
-same_one [] x h = absurd (omega arith)
-same_one (b ∷ []) x h = itself (eqb b x)
-  where
-    itself : (t : Bool) → cond t true false ≡ t
-    itself true = refl
-    itself false = refl
-same_one (b ∷ y ∷ s) x h = absurd (omega arith)

@@ -4,7 +4,7 @@ ghost use Rattle.sheet.specs.Sheet.{SheetStarted, SheetTicked};
 ghost use Rattle.sheet.specs.Table.{table_rows, rows_of, clipped};
 
 use crate::row::{Row, SheetAnswer};
-use crate::walk::MOST_ROWS;
+use crate::seen::MOST_ROWS;
 use crate::{start, tick};
 use blocks::Tick;
 

@@ -16,4 +16,3 @@ pub mod Wiping
 pub mod TwoRows
 pub mod Seventeen
 pub mod OneResult
-pub mod Full

@@ -5,12 +5,13 @@ use native.Mathlib.Omega.{arith}
 use mathlib.Core.Path.{◌≡◌, refl, sym, ◌∙◌, ap}
 use mathlib.Core.Bool.{Bool, true, false, cond}
 use mathlib.Core.Logic.{⊎_elim}
+use Rattle.std.specs.Prelude.{Some, None}
 use mathlib.Core.Option.{Option, none, some, none-ne-some, some-injective}
 use mathlib.Core.List.{List, [], ◌∷◌, ◌++◌, append-nil}
 use borrow.Author.Tests.{ltb-true, ltb-false, eq-eqb, ne_eqb}
 use lib.Dec.{eqb, ltb}
 use lib.ListN.{length, get_or, take, drop, set, length-set, length-drop, length-append}
-use lib.Seq.{length-take-le, take_all, append_snoc, take-append-le, set_out, take-suc-set, drop-drop}
+use lib.Seq.{take_at, drop_at, length-take-le, take_all, append_snoc, take-append-le, set_out, take-suc-set, drop-drop}
 use Rattle.blocks.specs.Named.{controller_settings, named_by}
 use Rattle.blocks.specs.declared.block.Block.{Block}
 use Rattle.std.specs.Prelude as block
@@ -19,7 +20,7 @@ use Rattle.sheet.proofs.Stretches.{either}
 use Rattle.exports.specs.Calls.{by_name}
 use Rattle.sheet.specs.Table.{table_rows}
 use Rattle.exports.specs.Sheets.{settings_at, words_per_row, settings_read, row_with, row_by, below, rows_by, rows_named, by_rows, Bare, Tabled}
-use Rattle.exports.specs.declared.sheets.NamedTable.{NamedTable}
+use Rattle.sheet.specs.declared.table.Table.{Table}
 
 -- ---- a row
 -- its settings lie within its words
@@ -84,114 +85,94 @@ module _ (xs rs : List Row) (i : ℕ) (r : Row) (full : length xs ≡ table_rows
       ∙ sym (take-append-le table_rows rs (r ∷ []) (omega (arith, past, many))))
       (either (ltb i table_rows))
 
--- ---- what the loop keeps: i rows were read, `at` words of them, and the places show the first of them
-pub record Tabling (w : List ℕ) (t : NamedTable) (i at : ℕ) : Type 0 where
+-- ---- what the loop keeps: so many rows were read, these words are left, and the places show the first of the rows
+pub record Tabling (w : List ℕ) (t : Table) (rest : List ℕ) : Type 0 where
   pub left : ℕ
   pub so_far : List Row
-  pub reaches : at + words_per_row * left ≡ length w
-  pub counts : i ≤ at
-  pub unnamed : t.named ≡ false
+  pub long : length rest ≡ words_per_row * left
+  pub reaches : words_per_row * t.count + length rest ≡ length w
   pub full : length t.rows ≡ table_rows
-  pub many : length so_far ≡ i
-  pub rows : rows_by (length w / words_per_row) w ≡ under so_far (rows_by left (drop at w))
-  pub shows : take i t.rows ≡ take table_rows so_far
+  pub many : length so_far ≡ t.count
+  pub rows : rows_by (length w / words_per_row) w ≡ under so_far (rows_by left rest)
+  pub shows : take t.count t.rows ≡ take table_rows so_far
 
 module _ (w : List ℕ) where
   -- at the start
-  pub tabling_none : {t : NamedTable} → length w % words_per_row ≡ 0 → Bare t → Tabling w t 0 0
-  tabling_none whole bare = record {
+  pub tabling_none : {t : Table} {rest : List ℕ} → length w % words_per_row ≡ 0 → Bare t → rest ≡ w → Tabling w t rest
+  tabling_none {t} whole bare e = rw e (record {
     left = length w / words_per_row;
     so_far = [];
-    reaches = omega (arith, whole);
-    counts = omega arith;
-    unnamed = bare.unnamed;
+    long = omega (arith, whole);
+    reaches = omega (arith, bare.none_yet);
     full = bare.places;
-    many = refl;
+    many = sym bare.none_yet;
     rows = under_none (rows_by (length w / words_per_row) w);
-    shows = refl;
-  }
+    shows = rw bare.none_yet refl;
+  })
 
-  module _ {t : NamedTable} {i at : ℕ} (on : Tabling w t i at) where
-    -- the words of the next row
-    abbrev row : List ℕ
-    row = take (at + words_per_row - at) (drop at w)
-
-    -- the table with a row at the next place
-    abbrev also : Row → NamedTable
-    also r = record { named = t.named; rows = set t.rows i r; count = t.count }
-
-    -- a row's words are all there
-    pub row_whole : at < length w → words_per_row ≤ length row
-    row_whole h =
-        let cut : at + words_per_row - at ≡ words_per_row = omega arith in
-        rw cut (omega (arith, length-take-le words_per_row (drop at w) (omega (arith, length-drop at w, h, on.reaches))))
-
-    module _ (h : at < length w) where
-      -- what is left begins with this row
-      begins : {x : Option Row} → row_by row ≡ x → (n : ℕ) → on.left ≡ suc n → rows_by (length w / words_per_row) w ≡ under on.so_far (below x (rows_by n (drop (at + words_per_row) w)))
-      unfolding rows_by
-      begins reads n z =
-          let cut : at + words_per_row - at ≡ words_per_row = omega arith in
-          on.rows ∙ rw (z, ← reads, cut, drop-drop words_per_row at w) refl
-
-      -- one row more
-      pub tabling_more : {r : Row} → row_by row ≡ some r → Tabling w (also r) (i + 1) (at + words_per_row)
-      tabling_more {r} reads = go on.left refl
-        where
-          go : (n : ℕ) → on.left ≡ n → Tabling w (also r) (i + 1) (at + words_per_row)
-          go zero z = absurd (omega (arith, h, z, on.reaches))
-          go (suc n) z = record {
-            left = n;
-            so_far = on.so_far ++ (r ∷ []);
-            reaches = omega (arith, z, on.reaches);
-            counts = omega (arith, on.counts);
-            unnamed = on.unnamed;
-            full = length-set t.rows i r ∙ on.full;
-            many = length-append on.so_far (r ∷ []) ∙ ap (λ (k : ℕ). k + 1) on.many;
-            rows = begins reads n z ∙ under_more on.so_far r (rows_by n (drop (at + words_per_row) w));
-            shows = more_shown t.rows on.so_far i r on.full on.many on.shows;
-          }
-
-      -- the same past the last place
-      pub tabling_past : {r : Row} → row_by row ≡ some r → table_rows ≤ i → Tabling w t (i + 1) (at + words_per_row)
-      tabling_past {r} reads past = rw (set_out t.rows i r (omega (arith, past, on.full))) at (tabling_more reads)
-
-      -- a row that names no block
-      pub tabling_nothing : row_by row ≡ none → rows_by (length w / words_per_row) w ≡ none
-      unfolding below
-      tabling_nothing reads = go on.left refl
-        where
-          go : (n : ℕ) → on.left ≡ n → rows_by (length w / words_per_row) w ≡ none
-          go zero z = absurd (omega (arith, h, z, on.reaches))
-          go (suc n) z = begins reads n z
-
-    -- at the end
-    pub tabling_all : length w ≤ at → rows_by (length w / words_per_row) w ≡ some on.so_far
+  module _ (row more : List ℕ) {t : Table} {rest : List ℕ} (on : Tabling w t rest) (next : rest ≡ row ++ more) (whole : length row ≡ words_per_row) where
+    -- what is left begins with this row
+    begins : {x : Option Row} → row_by row ≡ x → (n : ℕ) → on.left ≡ suc n → rows_by (length w / words_per_row) w ≡ under on.so_far (below x (rows_by n more))
     unfolding rows_by
-    tabling_all h =
-        let z : on.left ≡ 0 = omega (arith, h, on.reaches) in
-        on.rows ∙ rw z (ap some (append-nil on.so_far))
+    begins reads n z = on.rows ∙ rw (z, next, take_at row more words_per_row whole, drop_at row more words_per_row whole, reads) refl
+
+    length_is : length rest ≡ words_per_row + length more
+    length_is = rw (next, length-append row more, whole) refl
+
+    some_left : (n : ℕ) → on.left ≡ n → (m : ℕ) × (on.left ≡ suc m)
+    some_left zero z = absurd (omega (arith, z, on.long, length_is))
+    some_left (suc n) z = (n, z)
+
+    -- one row more, at the next place
+    pub tabling_more : {r : Row} → row_by row ≡ some r → Tabling w (record { rows = set t.rows t.count r; count = t.count + 1 }) more
+    tabling_more {r} reads =
+        let (n, z) = some_left on.left refl in
+        record {
+          left = n;
+          so_far = on.so_far ++ (r ∷ []);
+          long = omega (arith, z, on.long, length_is);
+          reaches = omega (arith, on.reaches, length_is);
+          full = length-set t.rows t.count r ∙ on.full;
+          many = length-append on.so_far (r ∷ []) ∙ ap (λ (k : ℕ). k + 1) on.many;
+          rows = begins reads n z ∙ under_more on.so_far r (rows_by n more);
+          shows = more_shown t.rows on.so_far t.count r on.full on.many on.shows;
+        }
+
+    -- the same past the last place
+    pub tabling_past : {r : Row} → row_by row ≡ some r → table_rows ≤ t.count → Tabling w (record { rows = t.rows; count = t.count + 1 }) more
+    tabling_past {r} reads past = rw (set_out t.rows t.count r (omega (arith, past, on.full))) at (tabling_more reads)
+
+    -- a row that names no block
+    pub tabling_nothing : row_by row ≡ none → rows_by (length w / words_per_row) w ≡ none
+    unfolding below
+    tabling_nothing reads = let (n, z) = some_left on.left refl in begins reads n z
+
+  -- at the end
+  pub tabling_all : {t : Table} {rest : List ℕ} (on : Tabling w t rest) → length rest < words_per_row → rows_by (length w / words_per_row) w ≡ some on.so_far
+  unfolding rows_by
+  tabling_all on h =
+      let z : on.left ≡ 0 = omega (arith, h, on.long) in
+      on.rows ∙ rw z (ap some (append-nil on.so_far))
 
 -- ---- the table that is given
-module _ (w : List ℕ) (t : NamedTable) where
-  no_rows : rows_named w ≡ none → t.named ≡ false → Tabled (rows_named w) t
+module _ (w : List ℕ) where
+  no_rows : rows_named w ≡ none → Tabled (rows_named w) None
   unfolding by_rows
-  no_rows e f = rw e (record { named = f; first = λ rs z. absurd (none-ne-some rs z) })
+  no_rows e = rw e (record { named = refl; first = λ rs by z. absurd (none-ne-some rs z) })
 
   -- the words are not whole rows
-  pub tabled_odd : (length w % words_per_row ≡ 0 → ⊥) → t.named ≡ false → Tabled (rows_named w) t
+  pub tabled_odd : (length w % words_per_row ≡ 0 → ⊥) → Tabled (rows_named w) None
   unfolding rows_named
-  tabled_odd h = no_rows (rw (ne_eqb _ _ h))
+  tabled_odd h = no_rows (rw (ne_eqb _ _ h) refl)
 
   -- a row names no block
-  pub tabled_nothing : length w % words_per_row ≡ 0 → rows_by (length w / words_per_row) w ≡ none → t.named ≡ false → Tabled (rows_named w) t
+  pub tabled_nothing : length w % words_per_row ≡ 0 → rows_by (length w / words_per_row) w ≡ none → Tabled (rows_named w) None
   unfolding rows_named
-  tabled_nothing whole e = no_rows (rw (eq-eqb _ _ whole, e))
+  tabled_nothing whole e = no_rows (rw (eq-eqb _ _ whole, e) refl)
 
--- every row names one
-pub tabled_all : (w : List ℕ) (xs : List Row) (n : ℕ) (rs : List Row) → length w % words_per_row ≡ 0 → rows_by (length w / words_per_row) w ≡ some rs → take n xs ≡ take table_rows rs
-    → Tabled (rows_named w) (record { named = true; rows = xs; count = n })
-unfolding rows_named by_rows
-tabled_all w xs n rs whole e shows =
-    let named : rows_named w ≡ some rs = rw (eq-eqb _ _ whole, e) in
-    rw named (record { named = refl; first = λ ss z. shows ∙ ap (take table_rows) (some-injective rs ss z) })
+  -- every row names one
+  pub tabled_all : {t : Table} {rest : List ℕ} → length w % words_per_row ≡ 0 → Tabling w t rest → length rest < words_per_row → Tabled (rows_named w) (Some t)
+  unfolding rows_named by_rows
+  tabled_all {t} whole on h =
+      let named : rows_named w ≡ some on.so_far = rw (eq-eqb _ _ whole, tabling_all w on h) refl in
+      rw named (record { named = refl; first = λ rs by y z. let e : by ≡ t = cc in rw e (on.shows ∙ ap (take table_rows) (some-injective on.so_far rs y)) })

@@ -1,5 +1,7 @@
 -- The sheet's calls over words, by the rows that the words name; words of which a row names no block are refused with 13. Definitions only.
 use Rattle.std.specs.Prelude.{ℕ, zero, suc, ◌+◌, ◌/◌, ◌%◌, ◌≡◌, true, false, cond, List, [], ◌∷◌, eqb, ltb, length, get_or, take, drop}
+use Rattle.std.specs.Prelude.{Option as Perhaps, Some}
+use Rattle.std.specs.Option.{is_some}
 use Rattle.std.proofs.Math.Option.{Option, none, some}
 use Rattle.reals.specs.Words.{real_of, word_of_flag}
 use Rattle.blocks.specs.Named.{controller_settings, named_by}
@@ -13,7 +15,6 @@ use Rattle.sheet.specs.declared.table.Table.{Table}
 use Rattle.exports.specs.Boundary.{no_block}
 use Rattle.exports.specs.Calls.{by_name}
 use Rattle.exports.specs.declared.sheets.SheetWords.{SheetWords}
-use Rattle.exports.specs.declared.sheets.NamedTable.{NamedTable}
 
 -- ---- what crosses
 -- a sheet's answer in words, and the one where a row names no block
@@ -68,19 +69,15 @@ unfoldable pub by_rows : {X : Type 0} → Option (List Row) → (List Row → X)
 by_rows (some rs) f nothing = f rs
 by_rows none f nothing = nothing
 
--- the table that was read
-abbrev pub shown : NamedTable → Table
-shown t = record { rows = t.rows; count = t.count }
-
 -- one without rows, that has all its places
-pub record Bare (t : NamedTable) : Type 0 where
-  pub unnamed : t.named ≡ false
+pub record Bare (t : Table) : Type 0 where
+  pub none_yet : t.count ≡ 0
   pub places : length t.rows ≡ table_rows
 
--- such rows in a table: the first of them
-pub record Tabled (o : Option (List Row)) (t : NamedTable) : Type 0 where
-  pub named : t.named ≡ by_rows o (λ rs. true) false
-  pub first : (rs : List Row) → o ≡ some rs → rows_of (shown t) ≡ take table_rows rs
+-- such rows in a table, if there are any: the first of them
+pub record Tabled (o : Option (List Row)) (t : Perhaps Table) : Type 0 where
+  pub named : is_some t ≡ by_rows o (λ rs. true) false
+  pub first : (rs : List Row) (by : Table) → o ≡ some rs → t ≡ Some by → rows_of by ≡ take table_rows rs
 
 -- ---- the calls: the sheet's over the rows, or 13 and nothing written
 pub record StartsBy (o : Option (List Row)) (region : List ℕ) (r : SheetWords) (left : List ℕ) : Type 0 where

@@ -1,6 +1,6 @@
 // The sheet's calls over words: a row is the block's number, its three columns, then its settings, with room for those of a controller.
 ghost use Rattle.std.specs.Prelude.{◌≤◌, ◌≡◌, length};
-ghost use Rattle.exports.specs.Sheets.{sheet_crossed, no_sheet, tick_by, words_per_row, settings_read, row_with, rows_named, shown, Bare, Tabled, StartsBy, TicksBy};
+ghost use Rattle.exports.specs.Sheets.{sheet_crossed, no_sheet, tick_by, words_per_row, settings_read, row_with, rows_named, Bare, Tabled, StartsBy, TicksBy};
 
 use crate::boundary::NO_BLOCK;
 use blocks::{Block, CONTROLLER_SETTINGS, Tick, block_of};
@@ -24,15 +24,8 @@ pub struct SheetWords {
     pub warning: u64,
 }
 
-// Whether every row names a block; and if so the rows, of which a table shows the first.
-#[derive(Clone, Copy)]
-pub struct NamedTable {
-    pub named: bool,
-    pub rows: [Row; TABLE_ROWS],
-    pub count: usize,
-}
-
 // What a sheet answers, in words.
+#[tactic(auto, unfolding(crate::specs::Sheets::sheet_crossed))]
 fn sheet_words(a: SheetAnswer) -> SheetWords
     ensures { result ≡ sheet_crossed a }
 {
@@ -66,22 +59,16 @@ fn tick_by(time: u64, words: &[u64; 8]) -> Tick
 }
 
 // How many of a row's settings a block of this number reads.
+#[tactic(auto, unfolding(crate::specs::Sheets::settings_read))]
 fn settings_read(number: u64) -> usize
     ensures { result ≡ settings_read number }
 {
-    if number < 2 {
-        return CONTROLLER_SETTINGS;
+    match number {
+        0 | 1 => CONTROLLER_SETTINGS,
+        4 | 5 => 2,
+        7 => 3,
+        _ => 1,
     }
-    if number == 4 {
-        return 2;
-    }
-    if number == 5 {
-        return 2;
-    }
-    if number == 7 {
-        return 3;
-    }
-    1
 }
 
 // The row of this block with the columns of its words.
@@ -108,71 +95,45 @@ fn blank() -> Row {
     }
 }
 
-// A table without rows; and the answer where a row names no block.
-fn no_table() -> NamedTable
+// A table without rows, that has all its places.
+fn no_table() -> Table
     ensures { Bare result }
 {
     let row = blank();
     let rows = [row; TABLE_ROWS];
-    NamedTable {
-        named: false,
-        rows,
-        count: 0,
-    }
+    Table { rows, count: 0 }
 }
 
-// The rows that all words are. A row's block is copied once, from what `block_of` gives to its place.
-fn table_of(words: &[u64]) -> NamedTable
+// The rows that all words are, of which a table shows the first; nothing if the words are not whole rows, or a row names no block.
+// A row's block is copied once, from what `block_of` gives to its place.
+#[tactic(auto, using(crate::proofs::Tabling::few_settings))]
+fn table_of(words: &[u64]) -> Option<Table>
     ensures { Tabled (rows_named words.now) result }
 {
-    let mut read = no_table();
     if words.len() % WORDS_PER_ROW != 0 {
-        return read;
+        return None;
     }
-    let mut count: usize = 0;
-    let mut at: usize = 0;
-    while at < words.len() {
-        let end = at + WORDS_PER_ROW;
-        let row = &words[at..end];
+    let mut read = no_table();
+    for row in words.chunks_exact(WORDS_PER_ROW) {
         let number = row[0];
         let stop = SETTINGS_AT + settings_read(number);
-        let named = block_of(number, &row[SETTINGS_AT..stop]);
-        let Some(block) = named else {
-            return read;
-        };
-        let whole = row_with(block, row);
-        let place = count;
-        count += 1;
-        at = end;
-        if place < TABLE_ROWS {
-            read.rows[place] = whole;
+        let block = block_of(number, &row[SETTINGS_AT..stop])?;
+        if read.count < TABLE_ROWS {
+            read.rows[read.count] = row_with(block, row);
         }
+        read.count += 1;
     }
-    read.named = true;
-    read.count = count;
-    read
-}
-
-// The table that was read.
-fn shown(read: NamedTable) -> Table
-    ensures { result ≡ shown read }
-{
-    let rows = read.rows;
-    Table {
-        rows,
-        count: read.count,
-    }
+    Some(read)
 }
 
 // Starts the sheet over these rows. 13 comes first: the words are not whole rows, or a row names no block.
 pub fn oven_sheet_start(rows: &[u64], region: &mut [u64]) -> SheetWords
     ensures { StartsBy (rows_named rows.now) region.old result region.new }
 {
-    let read = table_of(rows);
-    if !read.named {
+    let Some(table) = table_of(rows) else {
         return no_sheet();
-    }
-    sheet_words(start_table(shown(read), region))
+    };
+    sheet_words(start_table(table, region))
 }
 
 // One tick of the sheet over these rows. 13 comes first, as for a start.
@@ -185,9 +146,8 @@ pub fn oven_sheet_tick(
 ) -> SheetWords
     ensures { TicksBy (rows_named rows.now) (tick_by time words.now) region.old answers.old result region.new answers.new }
 {
-    let read = table_of(rows);
-    if !read.named {
+    let Some(table) = table_of(rows) else {
         return no_sheet();
-    }
-    sheet_words(tick_table(shown(read), tick_by(time, words), region, answers))
+    };
+    sheet_words(tick_table(table, tick_by(time, words), region, answers))
 }

@@ -1,9 +1,9 @@
 -- Which rows' blocks accept a tick on their own stretch, and with which number they refuse it. Assumes nothing.
-use Prim.Native.Nat.{ℕ}
+use Prim.Native.Nat.{ℕ, ◌<◌}
 use native.Mathlib.Omega.{arith}
 use mathlib.Core.Path.{◌≡◌, refl}
 use mathlib.Core.Bool.{Bool, true, false, ◌&&◌}
-use mathlib.Core.Logic.{inl, inr}
+use mathlib.Core.Logic.{◌⊎◌, inl, inr}
 use mathlib.Core.List.{List, [], ◌∷◌}
 use borrow.Author.Tests.{eq-eqb}
 use lib.Dec.{eqb}
@@ -18,7 +18,6 @@ use Rattle.blocks.specs.Block.{machine_of}
 use Rattle.sheet.specs.Rows.{wide, width_of, Placed, placed, every}
 use Rattle.sheet.specs.Sheet.{settled, decodes, on_time}
 use Rattle.sheet.specs.declared.row.Row.{Row}
-use Rattle.sheet.proofs.Walks.{Above}
 
 -- ---- tests over a list
 module _ {A : Type 0} (d f : A → Bool) where
@@ -35,6 +34,10 @@ module _ {A : Type 0} (d f : A → Bool) where
       let (a, b) = both (d x) (every d xs) e in
       let (u, v) = both (f x) (every f xs) g in
       rw (a, u) (every_both xs b v)
+
+-- ---- no refusal, or one of a number above this
+abbrev pub Above : ℕ → ℕ → Type 0
+Above least m = (m ≡ 0) ⊎ (least < m)
 
 -- ---- a row whose settings are accepted and whose stretch has its block's length
 abbrev pub fitting : Placed → Bool

@@ -16,18 +16,12 @@ use Rattle.reals.specs.Words.{nearest, real_of, word_of, flag_of, word_of_flag}
 use Rattle.blocks.specs.declared.block.Tick.{Tick}
 use Rattle.sheet.specs.Rows.{wide, placed, every, any_of, joined}
 use Rattle.sheet.specs.Sheet.{input_words, row_answers, names, in_reach, all_reach, named_word, row_tick, Fed, feed, fed_below, fed, answers_of}
-use Rattle.sheet.specs.Walk.{larger, tick_by}
+use Rattle.sheet.specs.Walk.{tick_by}
 use Rattle.sheet.specs.declared.row.Row.{Row}
+use Rattle.sheet.specs.declared.seen.Seen.{Seen}
 use Rattle.sheet.proofs.Stretches.{either}
 
 -- ---- which columns name a word in row n
--- by the row that an answer word belongs to
-pub belongs_above : (c n : ℕ) → ltb ((c - input_words) / row_answers) n ≡ ltb (c - input_words) (row_answers * n)
-belongs_above c n = ⊎_elim
-    (λ e. e ∙ sym (lt-ltb (c - input_words) (row_answers * n) (omega (arith, ltb-true ((c - input_words) / row_answers) n e))))
-    (λ e. e ∙ sym (le-ltb (c - input_words) (row_answers * n) (omega (arith, ltb-false ((c - input_words) / row_answers) n e))))
-    (either (ltb ((c - input_words) / row_answers) n))
-
 -- those of the words in sight: the tick's, and two of each row above
 pub names_is : (n c : ℕ) → names n c ≡ ltb c (input_words + row_answers * n)
 names_is n c = ⊎_elim
@@ -40,25 +34,6 @@ names_is n c = ⊎_elim
 
 names_below : (n c : ℕ) → names n c ≡ true → c < input_words + row_answers * n
 names_below n c e = ltb-true c (input_words + row_answers * n) (sym (names_is n c) ∙ e)
-
--- of two columns both name a word exactly if the larger does
-larger_below : (a b m : ℕ) → ltb (larger a b) m ≡ (ltb a m && ltb b m)
-larger_below a b m = ⊎_elim
-    (λ e. rw e (⊎_elim
-    (λ f. f ∙ sym (rw (lt-ltb a m (omega (arith, ltb-true a b e, ltb-true b m f)), f) refl))
-    (λ f. f ∙ sym (rw f (and-false (ltb a m))))
-    (either (ltb b m))))
-    (λ e. rw e (⊎_elim
-    (λ f. f ∙ sym (rw (f, lt-ltb b m (omega (arith, ltb-false a b e, ltb-true a m f))) refl))
-    (λ f. f ∙ sym (rw f refl))
-    (either (ltb a m))))
-    (either (ltb a b))
-
-larger_named : (n a b : ℕ) → names n (larger a b) ≡ (names n a && names n b)
-larger_named n a b = rw (names_is n (larger a b), names_is n a, names_is n b) (larger_below a b (input_words + row_answers * n))
-
-pub largest_named : (n : ℕ) (r : Row) → names n (larger r.first (larger r.second r.third)) ≡ in_reach n r
-largest_named n r = larger_named n r.first (larger r.second r.third) ∙ ap (λ (b : Bool). names n r.first && b) (larger_named n r.second r.third)
 
 -- a lower row has them too
 names_more : (n m c : ℕ) → n ≤ m → names n c ≡ true → names m c ≡ true
@@ -111,9 +86,9 @@ module _ (k : Tick) (above : List ℕ) (n : ℕ) (r : Row) (reach : in_reach n r
   same_tick more long = rw (same_word k above n r.first on_first more long, same_word k above n r.second on_second more long, same_word k above n r.third on_third more long) refl
 
   -- a row whose columns are in reach reads what it is to receive
-  pub sees : (seen : List ℕ) → length k.words ≡ input_words → take (input_words + row_answers * n) seen ≡ k.words ++ above → tick_by k.time seen r ≡ row_tick k above r
+  pub sees : (seen : Seen) → length k.words ≡ input_words → take (input_words + row_answers * n) seen.words ≡ k.words ++ above → tick_by k.time seen r ≡ row_tick k above r
   unfolding tick_by row_tick
-  sees seen eight sight = rw (word_in_sight k above n r.first on_first seen eight sight, word_in_sight k above n r.second on_second seen eight sight, word_in_sight k above n r.third on_third seen eight sight) refl
+  sees seen eight sight = rw (word_in_sight k above n r.first on_first seen.words eight sight, word_in_sight k above n r.second on_second seen.words eight sight, word_in_sight k above n r.third on_third seen.words eight sight) refl
 
 -- it is handed on as its bits: -0.0 is a true, and a true is the least real above zero
 pub minus_zero_is_true : flag_of (word_of (fin true 0 (pos 0))) ≡ true

@@ -2,13 +2,12 @@
 pub mod Stretches
 pub mod Feeding
 pub mod Ends
-pub mod Turning
+pub mod Rows
 pub mod Walks
 pub mod Admission
 pub mod Emits
 pub mod Works
 pub mod Results
-pub mod Rows
 pub mod Single
 pub mod Unfed
 pub mod Runs
@@ -17,4 +16,3 @@ pub mod Wiping
 pub mod TwoRows
 pub mod Seventeen
 pub mod OneResult
-pub mod Full

@@ -12,8 +12,6 @@ use lib.Seq.{take_at, drop_at, length-take-le, take-suc-set, take-take, take-add
 use Rattle.reals.proofs.Values.{both}
 use Rattle.dynamics.specs.Region.{stored}
 use Rattle.sheet.specs.Sheet.{most_rows, input_words, row_answers}
-use Rattle.sheet.specs.Walk.{own_words, handed_out}
-use Rattle.sheet.specs.declared.walk.Walk.{Walk}
 
 -- ---- a test passes or it does not
 pub either : (b : Bool) → (b ≡ true) ⊎ (b ≡ false)
@@ -41,23 +39,7 @@ module _ (at n : ℕ) (ws ys : List ℕ) (fits : at + n ≤ length ws) (same : l
   pub length_put : length (patched at n ws ys) ≡ length ws
   length_put = simp (length-append, length-take-le at ws (omega arith), length-drop) (omega arith)
 
--- ---- tests that go without a sum, which may be past what a word holds
-pub leb_minus : (at n len : ℕ) → at ≤ len → leb n (len - at) ≡ leb (at + n) len
-leb_minus at n len h = ⊎_elim
-    (λ e. e ∙ sym (le-leb (at + n) len (omega (arith, leb-true n (len - at) e))))
-    (λ e. e ∙ sym (lt-leb (at + n) len (omega (arith, leb-false n (len - at) e))))
-    (either (leb n (len - at)))
-
-pub twice_is : (a b : ℕ) → b ≤ a → eqb (a - b) b ≡ eqb a (2 * b)
-twice_is a b h = ⊎_elim
-    (λ e. e ∙ sym (eq-eqb a (2 * b) (omega (arith, eqb-true (a - b) b e))))
-    (λ e. e ∙ sym (ne_eqb a (2 * b) (λ z. eqb-false (a - b) b e (omega (arith, z)))))
-    (either (eqb (a - b) b))
-
--- ---- words that are there, and as many as a row has, up to its end
-pub within : (at end len : ℕ) → (leb at end && leb end len) ≡ true → (at ≤ end) × (end ≤ len)
-within at end len e = let (a, b) = both (leb at end) (leb end len) e in (leb-true at end a, leb-true end len b)
-
+-- ---- as many words as a row has, up to its end
 pub up_to : (at n : ℕ) → (at + n) - at ≡ n
 up_to at n = omega arith
 
@@ -81,24 +63,3 @@ pub behind : (n : ℕ) (l ws more : List ℕ) (m : ℕ) → length ws ≡ n → 
 behind n l ws more m long e =
     let first : take n l ≡ ws = sym (take-take n (n + m) l (omega arith)) ∙ ap (take n) e ∙ take_at ws more n long in
     sym (drop_at ws (take m (drop n l)) n long) ∙ ap (drop n) (sym (take-add n m l ∙ ap (λ (x : List ℕ). x ++ take m (drop n l)) first) ∙ e) ∙ drop_at ws more n long
-
--- those that are handed out
-pub hands_out : (w : Walk) (seen os : List ℕ) → w.refusal ≡ 0 → length seen ≡ own_words → length os ≤ row_answers * most_rows
-    → stored os (take ((input_words + length os) - input_words) (drop input_words seen)) ≡ handed_out w seen os
-hands_out w seen os z all few =
-    let e : (input_words + length os) - input_words ≡ length os = omega arith in
-    let long : length (take (length os) (drop input_words seen)) ≡ length os = length-take-le (length os) (drop input_words seen) (omega (arith, all, few, length-drop input_words seen)) in
-    rw (e, z, le-leb (length os) (row_answers * most_rows) few, eq-eqb (length os) (length (take (length os) (drop input_words seen))) (sym long)) refl
-
--- the eight words of a tick, one by one
-pub eight_are : (ws : List ℕ) → length ws ≡ input_words → get_or ws 0 0 ∷ get_or ws 1 0 ∷ get_or ws 2 0 ∷ get_or ws 3 0 ∷ get_or ws 4 0 ∷ get_or ws 5 0 ∷ get_or ws 6 0 ∷ get_or ws 7 0 ∷ [] ≡ ws
-eight_are [] e = absurd (omega (arith, e))
-eight_are (a ∷ []) e = absurd (omega (arith, e))
-eight_are (a ∷ b ∷ []) e = absurd (omega (arith, e))
-eight_are (a ∷ b ∷ c ∷ []) e = absurd (omega (arith, e))
-eight_are (a ∷ b ∷ c ∷ d ∷ []) e = absurd (omega (arith, e))
-eight_are (a ∷ b ∷ c ∷ d ∷ f ∷ []) e = absurd (omega (arith, e))
-eight_are (a ∷ b ∷ c ∷ d ∷ f ∷ g ∷ []) e = absurd (omega (arith, e))
-eight_are (a ∷ b ∷ c ∷ d ∷ f ∷ g ∷ h ∷ []) e = absurd (omega (arith, e))
-eight_are (a ∷ b ∷ c ∷ d ∷ f ∷ g ∷ h ∷ i ∷ []) e = refl
-eight_are (a ∷ b ∷ c ∷ d ∷ f ∷ g ∷ h ∷ i ∷ j ∷ ws) e = absurd (omega (arith, e))

@@ -4,21 +4,22 @@ use native.Mathlib.Omega.{arith}
 use mathlib.Core.Path.{◌≡◌, refl, sym, ◌∙◌}
 use mathlib.Core.Bool.{Bool, true, false, ◌||◌, or_assoc, or-false}
 use mathlib.Core.List.{List, [], ◌∷◌, ◌++◌, append_assoc, append-nil}
-use borrow.Author.Tests.{le-leb, lt-ltb}
+use borrow.Author.Tests.{le-leb}
 use lib.Dec.{leb}
 use lib.ListN.{length, take, drop, get_or}
 use lib.Seq.{take_all}
 use lib.Ieee.{Float}
+use Rattle.std.specs.Prelude.{None}
 use Rattle.reals.proofs.Values.{both}
 use Rattle.dynamics.proofs.Calls.{length_0}
 use Rattle.blocks.specs.Block.{machine_of, ticked}
 use Rattle.blocks.specs.declared.block.Tick.{Tick}
 use Rattle.blocks.proofs.Lengths.{started_length, updated_length}
 use Rattle.sheet.specs.Rows.{wide, width_of, Placed, placed, every, any_of, joined}
-use Rattle.sheet.specs.Sheet.{most_rows, input_words, row_answers, in_reach, settled, starts_on, row_tick, feed, warns_of, left_of}
-use Rattle.sheet.specs.Walk.{ends_at, Carried, carried, updated_row, started_row, turned_in, turned, walked}
+use Rattle.sheet.specs.Sheet.{input_words, row_answers, in_reach, settled, starts_on, row_tick, feed, warns_of, left_of}
+use Rattle.sheet.specs.Walk.{Carried, carried, updated_row, started_row, start_turn, walked}
 use Rattle.sheet.specs.declared.row.Row.{Row}
-use Rattle.sheet.specs.declared.walk.Phase.TheVariants.{Start, Update}
+use Rattle.sheet.specs.declared.seen.Seen.{Seen}
 use Rattle.sheet.specs.declared.walk.Walk.{Walk}
 use Rattle.sheet.proofs.Stretches.{cut, patched, take_put, drop_put, length_put, cut_length, up_to}
 use Rattle.sheet.proofs.Ends.{EndsAre}
@@ -55,30 +56,26 @@ module _ (f : Placed → List ℕ) (r : Row) (rs : List Row) (at : ℕ) (ws : Li
     unfolding placed joined
     work_step = rw (behind, take_put at (wide r) ws (f own) inside same, append_assoc)
 
--- ---- a start
-abbrev pub start_from : ℕ → Walk
-start_from at = record { phase = Start; refusal = 0; row = 0; at = at; warning = false }
+-- ---- a walk without a fault, up to here
+abbrev pub working : ℕ → Bool → Walk
+working at warning = record { fault = None; at = at; warning = warning }
 
-pub record Works (c : Carried) (warning : Bool) (ws seen : List ℕ) : Type 0 where
-  pub number_is : c.found.refusal ≡ 0
-  pub row_is : c.found.row ≡ 0
+pub record Works (c : Carried) (warning : Bool) (ws : List ℕ) (seen : Seen) : Type 0 where
   pub warning_is : c.found.warning ≡ warning
   pub region_is : c.region ≡ ws
   pub seen_is : c.seen ≡ seen
 
 module _ (time : Float) where
-  module _ (n : ℕ) (r : Row) (rs : List Row) (at : ℕ) (ws seen : List ℕ) (all : at + (wide r + width_of rs) ≡ length ws) where
-    start_step : settled r ≡ true → walked time n (r ∷ rs) (carried (start_from at) ws seen)
-        ≡ walked time (n + 1) rs (carried (start_from (at + wide r)) (done starts_on r rs at ws all (started_length r.block _ ∙ own_length starts_on r rs at ws all)) seen)
-    unfolding walked turned turned_in started_row
+  module _ (n : ℕ) (r : Row) (rs : List Row) (at : ℕ) (ws : List ℕ) (seen : Seen) (all : at + (wide r + width_of rs) ≡ length ws) where
+    start_step : settled r ≡ true → walked start_turn time n (r ∷ rs) (carried (working at false) ws seen)
+        ≡ walked start_turn time (n + 1) rs (carried (working (at + wide r) false) (done starts_on r rs at ws all (started_length r.block _ ∙ own_length starts_on r rs at ws all)) seen)
+    unfolding walked started_row
     start_step e = rw (length_0 (machine_of r.block) e, ahead starts_on r rs at ws all, next_at starts_on r rs at ws all, up_to at (wide r)) refl
 
-  pub started : (n : ℕ) (rs : List Row) (at : ℕ) (ws seen : List ℕ) → at + width_of rs ≡ length ws → every settled rs ≡ true
-      → Works (walked time n rs (carried (start_from at) ws seen)) false (take at ws ++ joined starts_on (placed rs (drop at ws))) seen
+  pub started : (n : ℕ) (rs : List Row) (at : ℕ) (ws : List ℕ) (seen : Seen) → at + width_of rs ≡ length ws → every settled rs ≡ true
+      → Works (walked start_turn time n rs (carried (working at false) ws seen)) false (take at ws ++ joined starts_on (placed rs (drop at ws))) seen
   unfolding walked width_of every
   started n [] at ws seen all e = record {
-    number_is = refl;
-    row_is = refl;
     warning_is = refl;
     region_is = sym (unfold placed joined in append-nil (take at ws) ∙ take_all at ws (omega arith));
     seen_is = refl;
@@ -90,11 +87,8 @@ module _ (time : Float) where
       (started (n + 1) rs (at + wide r) (done starts_on r rs at ws all same) seen (left starts_on r rs at ws all same) t)
 
 -- ---- updates
-abbrev pub update_from : ℕ → Bool → Walk
-update_from at warning = record { phase = Update; refusal = 0; row = 0; at = at; warning = warning }
-
 -- the answers of all rows, so many, are in sight, and each row reads of them what its emit saw
-module _ (k : Tick) (answers seen : List ℕ) (many : ℕ) (eight : length k.words ≡ input_words) (sight : take (input_words + row_answers * many) seen ≡ k.words ++ answers) where
+module _ (k : Tick) (answers : List ℕ) (seen : Seen) (many : ℕ) (eight : length k.words ≡ input_words) (sight : take (input_words + row_answers * many) seen.words ≡ k.words ++ answers) where
   abbrev pub leaves : Placed → List ℕ
   leaves p = left_of (feed k answers p)
 
@@ -109,10 +103,10 @@ module _ (k : Tick) (answers seen : List ℕ) (many : ℕ) (eight : length k.wor
     unfolding ticked
     same = updated_length r.block _ _ p.words ∙ own_length leaves r rs at ws all
 
-    update_step : n < most_rows → get_or seen (ends_at + n) 0 ≡ at + wide r → in_reach many r ≡ true → walked k.time n (r ∷ rs) (carried (update_from at warning) ws seen)
-        ≡ walked k.time (n + 1) rs (carried (update_from (at + wide r) (warning || warns p)) (done leaves r rs at ws all same) seen)
-    unfolding walked turned turned_in updated_row ticked row_tick
-    update_step h e t = rw (lt-ltb n most_rows h, e, ahead leaves r rs at ws all, next_at leaves r rs at ws all, up_to at (wide r), sees k answers many r t seen eight sight) refl
+    update_step : get_or seen.ends n 0 ≡ at + wide r → in_reach many r ≡ true → walked updated_row k.time n (r ∷ rs) (carried (working at warning) ws seen)
+        ≡ walked updated_row k.time (n + 1) rs (carried (working (at + wide r) (warning || warns p)) (done leaves r rs at ws all same) seen)
+    unfolding walked updated_row ticked row_tick
+    update_step e t = rw (e, ahead leaves r rs at ws all, next_at leaves r rs at ws all, up_to at (wide r), sees k answers many r t seen eight sight) refl
 
     abbrev rest : List Placed
     rest = placed rs (drop (at + wide r) (done leaves r rs at ws all same))
@@ -121,22 +115,20 @@ module _ (k : Tick) (answers seen : List ℕ) (many : ℕ) (eight : length k.wor
     unfolding placed any_of
     warning_step = rw (behind leaves r rs at ws all same) (or_assoc warning _ _)
 
-  pub updated : (n : ℕ) (rs : List Row) (at : ℕ) (warning : Bool) (ws : List ℕ) → at + width_of rs ≡ length ws → n + length rs ≤ most_rows → EndsAre n rs at seen → every (in_reach many) rs ≡ true
-      → Works (walked k.time n rs (carried (update_from at warning) ws seen)) (warning || any_of warns (placed rs (drop at ws)))
+  pub updated : (n : ℕ) (rs : List Row) (at : ℕ) (warning : Bool) (ws : List ℕ) → at + width_of rs ≡ length ws → EndsAre n rs at seen.ends → every (in_reach many) rs ≡ true
+      → Works (walked updated_row k.time n rs (carried (working at warning) ws seen)) (warning || any_of warns (placed rs (drop at ws)))
       (take at ws ++ joined leaves (placed rs (drop at ws))) seen
   unfolding walked width_of every EndsAre
-  updated n [] at warning ws all f here e = record {
-    number_is = refl;
-    row_is = refl;
+  updated n [] at warning ws all here e = record {
     warning_is = sym (unfold placed any_of in or-false warning);
     region_is = sym (unfold placed joined in append-nil (take at ws) ∙ take_all at ws (omega arith));
     seen_is = refl;
   }
-  updated n (r ∷ rs) at warning ws all f here e =
+  updated n (r ∷ rs) at warning ws all here e =
       let (t, u) = both (in_reach many r) (every (in_reach many) rs) e in
       rw (
-        update_step n r rs at warning ws all (omega (arith, f)) here.0 t,
+        update_step n r rs at warning ws all here.0 t,
         ← warning_step n r rs at warning ws all,
         ← work_step leaves r rs at ws all (same n r rs at warning ws all),
       )
-      (updated (n + 1) rs (at + wide r) _ _ (left leaves r rs at ws all (same n r rs at warning ws all)) (omega (arith, f)) here.1 u)
+      (updated (n + 1) rs (at + wide r) _ _ (left leaves r rs at ws all (same n r rs at warning ws all)) here.1 u)

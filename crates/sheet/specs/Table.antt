@@ -1,5 +1,5 @@
 -- A sheet whose rows come by value. Definitions only.
-use Rattle.std.specs.Prelude.{ℕ, ◌+◌, cond, List, ltb, take}
+use Rattle.std.specs.Prelude.{ℕ, ◌+◌, List, take}
 use Rattle.sheet.specs.Sheet.{most_rows}
 use Rattle.sheet.specs.declared.row.Row.{Row}
 use Rattle.sheet.specs.declared.table.Table.{Table}
@@ -11,7 +11,3 @@ rows_of t = take t.count t.rows
 -- the places of a table: one more than a sheet may have rows
 abbrev pub table_rows : ℕ
 table_rows = most_rows + 1
-
--- a count that stays within them
-abbrev pub clipped : ℕ → ℕ
-clipped count = cond (ltb table_rows count) table_rows count

@@ -1,5 +1,5 @@
--- How a sheet's code goes: walks over its rows, each with one thing to do on every row. What the private functions' contracts say. Definitions only.
-use Rattle.std.specs.Prelude.{ℕ, ◌+◌, ◌-◌, ◌*◌, ◌≡◌, Bool, false, not, ◌&&◌, ◌||◌, cond, List, [], ◌∷◌, ◌++◌, eqb, ltb, leb, length, take, drop, set, get_or, replicate, Float}
+-- A walk over a sheet's rows, as the private functions' contracts say. Definitions only.
+use Rattle.std.specs.Prelude.{ℕ, ◌+◌, ◌-◌, ◌*◌, ◌≡◌, Bool, true, false, not, ◌&&◌, ◌||◌, cond, List, [], ◌∷◌, ◌++◌, eqb, leb, length, take, drop, set, get_or, replicate, Float, Option, Some, None, Result, Ok, Err}
 use Rattle.std.specs.Float.Ieee.Scale.{finite}
 use Rattle.dynamics.specs.Machine.{length_answer, started_words, emit_answer, update_answer, updated_words}
 use Rattle.blocks.specs.Block.{machine_of, answer_words, inputs_of}
@@ -8,46 +8,49 @@ use Rattle.blocks.specs.declared.block.Tick.{Tick}
 use Rattle.sheet.specs.Sheet.{most_rows, input_words, row_answers, few_rows, in_reach}
 use Rattle.sheet.specs.declared.row.Row.{Row}
 use Rattle.sheet.specs.declared.row.SheetAnswer.{SheetAnswer}
-use Rattle.sheet.specs.declared.walk.Phase.{Phase}
-use Rattle.sheet.specs.declared.walk.Phase.TheVariants.{Survey, Start, Emit, Update, Refused}
+use Rattle.sheet.specs.declared.seen.Seen.{Seen}
+use Rattle.sheet.specs.declared.walk.Fault.{Fault}
 use Rattle.sheet.specs.declared.walk.Walk.{Walk}
 
 -- ---- a walk between rows
--- ahead of the first row, and one that is refused
-abbrev pub ready : Phase → Walk
-ready p = record { phase = p; refusal = 0; row = 0; at = 0; warning = false }
+-- a fault's number, and its row
+abbrev pub fault : ℕ → ℕ → Fault
+fault n row = record { number = n; row = row }
 
-abbrev pub refused_walk : ℕ → ℕ → Walk
-refused_walk n row = record { phase = Refused; refusal = n; row = row; at = 0; warning = false }
+-- ahead of the first row
+abbrev pub ready : Walk
+ready = record { fault = None; at = 0; warning = false }
 
 -- a fault of this number in row n is noted, unless one of this number or a lower one was
+abbrev pub no_lower : Option Fault → ℕ → Bool
+no_lower None number = true
+no_lower (Some f) number = not (leb f.number number)
+
 abbrev pub is_new : Walk → ℕ → Bool
-is_new w number = not (eqb number 0) && not (not (eqb w.refusal 0) && leb w.refusal number)
+is_new w number = not (eqb number 0) && no_lower w.fault number
 
 abbrev pub noted : Walk → ℕ → ℕ → Walk
-noted w number n = record {
-  phase = w.phase;
-  refusal = cond (is_new w number) number w.refusal;
-  row = cond (is_new w number) n w.row;
-  at = w.at;
-  warning = w.warning;
-}
+noted w number n = record { fault = cond (is_new w number) (Some (fault number n)) w.fault; at = w.at; warning = w.warning }
 
 -- past a row's words, and with what its update said
 abbrev pub moved_to : Walk → ℕ → Walk
-moved_to w end = record { phase = w.phase; refusal = w.refusal; row = w.row; at = end; warning = w.warning }
+moved_to w end = record { fault = w.fault; at = end; warning = w.warning }
 
 abbrev pub warned : Walk → Bool → Walk
-warned w b = record { phase = w.phase; refusal = w.refusal; row = w.row; at = w.at; warning = w.warning || b }
+warned w b = record { fault = w.fault; at = w.at; warning = w.warning || b }
+
+-- where n words from `at` end, if they lie in a region of so many
+abbrev pub past : ℕ → ℕ → ℕ → Option ℕ
+past at n words = cond (leb (at + n) words) (Some (at + n)) None
 
 -- ---- a row's turn
 -- all that a walk carries from row to row
 pub record Carried : Type 0 where
   pub found : Walk
   pub region : List ℕ
-  pub seen : List ℕ
+  pub seen : Seen
 
-abbrev pub carried : Walk → List ℕ → List ℕ → Carried
+abbrev pub carried : Walk → List ℕ → Seen → Carried
 carried w ws os = record { found = w; region = ws; seen = os }
 
 -- a row's stretch, from where the row above ended up to its own end, and the region with other words in its place
@@ -61,35 +64,25 @@ put_at at end ws ys = take at ws ++ (ys ++ drop (end - at) (drop at ws))
 abbrev pub works : ℕ → Carried → Carried → Carried
 works end c done = cond (leb c.found.at end && leb end (length c.region)) done c
 
--- the words that a tick keeps of its own: its inputs, the answers of as many rows as there may be, and then where each row's words end
-abbrev pub ends_at : ℕ
-ends_at = input_words + row_answers * most_rows
+-- a call's own words: the tick's inputs, the answers of as many rows as there may be, and then where each row's words end
+abbrev pub columns : ℕ
+columns = input_words + row_answers * most_rows
 
-abbrev pub own_words : ℕ
-own_words = ends_at + most_rows
-
--- row n's two answer words, behind the inputs and the answers of the rows above it, and where its words end; if there is room for them
-abbrev pub has_room : ℕ → List ℕ → Bool
-has_room n seen = ltb n most_rows && eqb (length seen) own_words
-
-abbrev pub put_two : ℕ → OutputWords → List ℕ → List ℕ
+-- row n's two answer words, behind the inputs and the answers of the rows above it, and where its words end
+abbrev pub put_two : ℕ → OutputWords → Seen → Seen
 put_two n two seen =
     let at = input_words + row_answers * n in
-    cond (has_room n seen) (set (set seen at two.first) (at + 1) two.second) seen
+    record { words = set (set seen.words at two.first) (at + 1) two.second; ends = seen.ends }
 
-abbrev pub put_end : ℕ → ℕ → List ℕ → List ℕ
-put_end n end seen = cond (has_room n seen) (set seen (ends_at + n) end) seen
+abbrev pub put_end : ℕ → ℕ → Seen → Seen
+put_end n end seen = record { words = seen.words; ends = set seen.ends n end }
 
-abbrev pub end_in : List ℕ → ℕ → ℕ
-end_in seen n = cond (ltb n most_rows) (get_or seen (ends_at + n) 0) 0
+abbrev pub end_in : Seen → ℕ → ℕ
+end_in seen n = get_or seen.ends n 0
 
 -- the end of a row's words by its block's length
 abbrev pub end_of : Row → Walk → ℕ
 end_of r w = w.at + (length_answer (machine_of r.block)).length
-
--- the larger of two columns
-abbrev pub larger : ℕ → ℕ → ℕ
-larger a b = cond (ltb a b) b a
 
 -- by the first that is wrong: a column, the settings, that the row's words lie in a region of so many
 abbrev pub looked_at : {X : Type 0} → ℕ → ℕ → Row → Walk → (column settings words : X) → X → X
@@ -98,16 +91,16 @@ looked_at len n r w column settings words right =
 
 -- a survey: tests 1 and 2, and of test 3 that the words are there; where they end is noted
 unfoldable pub surveyed_row : ℕ → ℕ → Row → Walk → Walk
-surveyed_row len n r w = looked_at len n r w (refused_walk 1 0) (noted w (length_answer (machine_of r.block)).refusal n) (noted w 3 0) (moved_to w (end_of r w))
+surveyed_row len n r w = looked_at len n r w (noted w 1 0) (noted w (length_answer (machine_of r.block)).refusal n) (noted w 3 0) (moved_to w (end_of r w))
 
-unfoldable pub surveyed_ends : ℕ → ℕ → Row → Walk → List ℕ → List ℕ
+unfoldable pub surveyed_ends : ℕ → ℕ → Row → Walk → Seen → Seen
 surveyed_ends len n r w seen = looked_at len n r w seen seen seen (put_end n (end_of r w) seen)
 
 -- the row's own tick: of the words in sight its columns name its inputs
-unfoldable pub tick_by : Float → List ℕ → Row → Tick
+unfoldable pub tick_by : Float → Seen → Row → Tick
 tick_by time seen r = record {
   time = time;
-  words = get_or seen r.first 0 ∷ get_or seen r.second 0 ∷ get_or seen r.third 0 ∷ 0 ∷ 0 ∷ 0 ∷ 0 ∷ 0 ∷ [];
+  words = get_or seen.words r.first 0 ∷ get_or seen.words r.second 0 ∷ get_or seen.words r.third 0 ∷ 0 ∷ 0 ∷ 0 ∷ 0 ∷ 0 ∷ [];
 }
 
 -- an emit: its refusal is noted, and its answer words come into sight
@@ -136,73 +129,105 @@ started_row r c =
     let end = end_of r w in
     works end c (carried (moved_to w end) (put_at w.at end c.region (started_words (machine_of r.block) (stretch w.at end c.region))) c.seen)
 
-unfoldable pub turned_in : Phase → Float → ℕ → Row → Carried → Carried
-turned_in Survey time n r c = carried (surveyed_row (length c.region) n r c.found) c.region (surveyed_ends (length c.region) n r c.found c.seen)
-turned_in Start time n r c = started_row r c
-turned_in Emit time n r c = emitted_row time n r c
-turned_in Update time n r c = updated_row time n r c
-turned_in Refused time n r c = c
+-- a pass over the rows: what it does, at this time, on row n
+abbrev pub Turn : Type 0
+Turn = Float → ℕ → Row → Carried → Carried
 
-unfoldable pub turned : Float → ℕ → Row → Carried → Carried
-turned time n r c = turned_in c.found.phase time n r c
+abbrev pub survey_turn : Turn
+survey_turn time n r c = carried (surveyed_row (length c.region) n r c.found) c.region (surveyed_ends (length c.region) n r c.found c.seen)
+
+abbrev pub start_turn : Turn
+start_turn time n r c = started_row r c
 
 -- ---- a walk over all rows, of which the first is row n
-unfoldable pub walked : Float → ℕ → List Row → Carried → Carried
-walked time n [] c = c
-walked time n (r ∷ rs) c = walked time (n + 1) rs (turned time n r c)
+unfoldable pub walked : Turn → Float → ℕ → List Row → Carried → Carried
+walked turned time n [] c = c
+walked turned time n (r ∷ rs) c = walked turned time (n + 1) rs (turned time n r c)
 
 -- the contract of a call that carries: what it returns and leaves
-pub record Left (c : Carried) (r : Walk) (ws os : List ℕ) : Type 0 where
+pub record Left (c : Carried) (r : Walk) (ws : List ℕ) (os : Seen) : Type 0 where
   pub found : r ≡ c.found
   pub region : ws ≡ c.region
   pub seen : os ≡ c.seen
 
 -- ---- from one walk to the next
-unfoldable pub begun : ℕ → Walk
-begun rows = cond (few_rows rows) (ready Survey) (refused_walk 1 0)
+-- nothing, or this fault
+abbrev pub refused : ℕ → Result Unit Fault
+refused n = Err (fault n 0)
 
--- a start: test 3, then the fresh words
-unfoldable pub surveyed : Walk → ℕ → Walk
-surveyed w words =
-    cond (eqb w.refusal 0)
-    (cond (eqb w.at words) (ready Start) (refused_walk 3 0))
-    (refused_walk w.refusal w.row)
+unfoldable pub begun : ℕ → Result Unit Fault
+begun rows = cond (few_rows rows) (Ok tt) (refused 1)
 
--- a tick: tests 3, 4 and 5, then the emits
-unfoldable pub formed : Walk → ℕ → ℕ → ℕ → Float → Walk
+-- a walk's fault ends the call
+abbrev pub past_fault : Option Fault → Result Unit Fault → Result Unit Fault
+past_fault None next = next
+past_fault (Some f) next = Err f
+
+abbrev pub unless_found : Walk → Result Unit Fault
+unless_found w = past_fault w.fault (Ok tt)
+
+-- a survey: test 3 too
+unfoldable pub surveyed : Walk → ℕ → Result Unit Fault
+surveyed w words = past_fault w.fault (cond (eqb w.at words) (Ok tt) (refused 3))
+
+-- a tick's survey: tests 3, 4 and 5
+unfoldable pub formed : Walk → ℕ → ℕ → ℕ → Float → Result Unit Fault
 formed w rows words space time =
-    cond (eqb w.refusal 0)
+    past_fault w.fault
     (cond (eqb w.at words)
     (cond (eqb space (row_answers * rows))
-    (cond (finite time) (ready Emit) (refused_walk 5 0))
-    (refused_walk 4 0))
-    (refused_walk 3 0))
-    (refused_walk w.refusal w.row)
+    (cond (finite time) (Ok tt) (refused 5))
+    (refused 4))
+    (refused 3))
 
--- what the emits found of 6 and 7, then the updates
-abbrev pub emitted_all : Walk → Walk
-emitted_all w = cond (eqb w.refusal 0) (ready Update) (refused_walk w.refusal w.row)
+-- what a call answers by how it ended
+abbrev pub answer_of : Result Bool Fault → SheetAnswer
+answer_of (Ok b) = record { refusal = 0; row = 0; warning = b }
+answer_of (Err f) = record { refusal = f.number; row = f.row; warning = false }
 
-abbrev pub answer_of : Walk → SheetAnswer
-answer_of w = record { refusal = w.refusal; row = w.row; warning = w.warning }
+-- ---- a call's own words before the first row: none in sight, or a tick's inputs; and what is handed out of them, unless the call was refused
+abbrev pub blank : Seen
+blank = record { words = replicate columns 0; ends = replicate most_rows 0 }
 
--- ---- a tick's own words: before the first row its inputs, with room for the rest; and what is handed out of them
-pub record InSight (k : Tick) (seen : List ℕ) : Type 0 where
+pub record InSight (k : Tick) (seen : Seen) : Type 0 where
   pub eight : length k.words ≡ input_words
-  pub words : seen ≡ k.words ++ replicate (row_answers * most_rows + most_rows) 0
+  pub words : seen.words ≡ k.words ++ replicate (row_answers * most_rows) 0
+  pub ends : seen.ends ≡ replicate most_rows 0
 
-abbrev pub handed_out : Walk → List ℕ → List ℕ → List ℕ
-handed_out w seen os = cond (eqb w.refusal 0 && leb (length os) (row_answers * most_rows)) (take (length os) (drop input_words seen)) os
+abbrev pub handed_out : Result Bool Fault → Seen → List ℕ → List ℕ
+handed_out (Ok b) seen os = take (length os) (drop input_words seen.words)
+handed_out (Err f) seen os = os
 
 -- ---- a start's two walks, and a tick's three
-abbrev pub handed_on : (Walk → Walk) → Carried → Carried
-handed_on f c = carried (f c.found) c.region c.seen
+-- a call at its end
+pub record Ended : Type 0 where
+  pub said : Result Bool Fault
+  pub region : List ℕ
+  pub seen : Seen
 
-abbrev pub starting : Float → List Row → List ℕ → Carried
-starting time rs ws = walked time 0 rs (handed_on (λ w. surveyed w (length ws)) (walked time 0 rs (carried (begun (length rs)) ws [])))
+-- a fault ends it with what was carried; else it goes on
+abbrev pub unless : Result Unit Fault → Carried → Ended → Ended
+unless (Ok x) c next = next
+unless (Err f) c next = record { said = Err f; region = c.region; seen = c.seen }
 
-abbrev pub ticking : Float → List Row → (region seen : List ℕ) → ℕ → Carried
+abbrev pub done : Carried → Ended
+done c = record { said = Ok c.found.warning; region = c.region; seen = c.seen }
+
+-- one walk more over all rows
+abbrev pub again : Turn → Float → List Row → Carried → Carried
+again turned time rs c = walked turned time 0 rs (carried ready c.region c.seen)
+
+abbrev pub starting : Float → List Row → List ℕ → Seen → Ended
+starting time rs ws seen =
+    let c = carried ready ws seen in
+    let looked = again survey_turn time rs c in
+    unless (begun (length rs)) c (unless (surveyed looked.found (length ws)) looked (done (again start_turn time rs looked)))
+
+abbrev pub ticking : Float → List Row → List ℕ → Seen → ℕ → Ended
 ticking time rs ws seen space =
-    walked time 0 rs (handed_on emitted_all
-    (walked time 0 rs (handed_on (λ w. formed w (length rs) (length ws) space time)
-    (walked time 0 rs (carried (begun (length rs)) ws seen)))))
+    let c = carried ready ws seen in
+    let looked = again survey_turn time rs c in
+    let emits = again emitted_row time rs looked in
+    unless (begun (length rs)) c
+    (unless (formed looked.found (length rs) (length ws) space time) looked
+    (unless (unless_found emits.found) emits (done (again updated_row time rs emits))))

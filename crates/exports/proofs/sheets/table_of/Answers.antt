@@ -1,41 +1,38 @@
 -- `table_of` reads the rows of its words: after each turn the places show those read so far. Assumes nothing.
-use native.Mathlib.Omega.{arith}
-use Rattle.exports.proofs.Tabling.{few_settings, row_named, row_nothing, tabling_none, row_whole, tabling_more, tabling_past, tabling_nothing, tabling_all, tabled_odd, tabled_nothing, tabled_all}
+use mathlib.Core.Path.{refl, ◌∙◌}
+use Rattle.exports.proofs.Tabling.{row_named, row_nothing, tabling_none, tabling_more, tabling_past, tabling_nothing, tabled_odd, tabled_nothing, tabled_all}
+use Rattle.exports.proofs.sheets.table_of.Goals.{then-read-lt-TABLE_ROWS, else-read-lt-TABLE_ROWS}
 use Rattle.exports.proofs.sheets.table_of.Goals as goal
 
 pub returns-then-words-ne0 : goal.returns-then-words-ne0
-returns-then-words-ne0 c = tabled_odd _ _ c.if-words-ne0.true c.no_table-read.ensures.unnamed
+returns-then-words-ne0 c = tabled_odd _ c.if-words-ne0.true
 
-pub loop-at-init : goal.loop-at-init
-loop-at-init c = tabling_none _ c.if-words-ne0.false c.no_table-read.ensures
-
-pub bounds-row-0 : goal.bounds-row-0
-bounds-row-0 c = omega (arith, row_whole _ c.loop-at.invariant c.loop-at-test.true)
-
-pub overflow_add-stop : goal.overflow_add-stop
-overflow_add-stop c = omega (arith, few_settings _ c.settings_read-stop.ensures)
-
-pub slice_bounds-block_of-end : goal.slice_bounds-block_of-end
-slice_bounds-block_of-end c = omega (arith, few_settings _ c.settings_read-stop.ensures, row_whole _ c.loop-at.invariant c.loop-at-test.true)
+pub loop-row-init : goal.loop-row-init
+loop-row-init c = rw c.into_iter-row-iterator.ensures.into_iter_gives (record {
+  tabling = tabling_none _ c.if-words-ne0.false c.no_table-read.ensures c.chunks_exact-row-items.ensures.rest;
+  size = c.chunks_exact-row-items.ensures.size;
+})
 
 pub returns-in_default : goal.returns-in_default
 returns-in_default c =
+    let (next, whole) = c.in-Some.ensures.steps.1 in
     let nothing = row_nothing _ _ c.settings_read-stop.ensures c.block_of-named.ensures c.in_default.is in
-    let none = tabling_nothing _ c.loop-at.invariant c.loop-at-test.true nothing in
-    tabled_nothing _ _ c.if-words-ne0.false none c.loop-at.invariant.unnamed
+    tabled_nothing _ c.if-words-ne0.false (tabling_nothing _ _ _ c.loop-row.invariant.tabling next (whole ∙ c.loop-row.invariant.size) nothing)
 
-pub row_with-whole-requires : goal.row_with-whole-requires
-row_with-whole-requires c = row_whole _ c.loop-at.invariant c.loop-at-test.true
-
-pub loop-at-preserved-then-place-lt-TABLE_ROWS : goal.loop-at-preserved-then-place-lt-TABLE_ROWS
-loop-at-preserved-then-place-lt-TABLE_ROWS c =
-    let named = row_named _ _ c.settings_read-stop.ensures c.block_of-named.ensures c.in-Some.is c.row_with-whole.ensures in
-    tabling_more _ c.loop-at.invariant c.loop-at-test.true named
-
-pub loop-at-preserved : goal.loop-at-preserved
-loop-at-preserved c =
-    let named = row_named _ _ c.settings_read-stop.ensures c.block_of-named.ensures c.in-Some.is c.row_with-whole.ensures in
-    tabling_past _ c.loop-at.invariant c.loop-at-test.true named c.if-place-lt-TABLE_ROWS.false
+pub loop-row-preserved : goal.loop-row-preserved
+loop-row-preserved c =
+    let (next, whole) = c.in-Some.ensures.steps.1 in
+    let on = c.loop-row.invariant in
+    let named = row_named _ _ c.settings_read-stop.ensures c.block_of-named.ensures c.in-Block.is refl in
+    record {
+      tabling = elim c.if-read-lt-TABLE_ROWS.branch [
+        | then-read-lt-TABLE_ROWS w ↦ rw (w.read-is, w.row_with.ensures) (tabling_more _ _ _ on.tabling next (whole ∙ on.size) named)
+        | else-read-lt-TABLE_ROWS w ↦ rw w.read-is (tabling_past _ _ _ on.tabling next (whole ∙ on.size) named w.if-read-lt-TABLE_ROWS.false)
+      ];
+      size = c.in-Some.ensures.steps.0 ∙ on.size;
+    }
 
 pub returns : goal.returns
-returns c = tabled_all _ _ _ _ c.if-words-ne0.false (tabling_all _ c.loop-at.invariant c.loop-at-test.false) c.loop-at.invariant.shows
+returns c =
+    let on = c.loop-row.invariant in
+    tabled_all _ c.if-words-ne0.false on.tabling (rw on.size at c.in-None.ensures.steps.1.0)

@@ -18,6 +18,7 @@ use Rattle.blocks.specs.declared.named.Named.TheVariants.{Nothing}
 use Rattle.blocks.specs.declared.named.Named.TheVariants as named
 use Rattle.lines.specs.declared.later.Later.{Later}
 use Rattle.lines.specs.Lines.{later_of}
+use Rattle.session.specs.declared.put.Out.{Out}
 use Rattle.session.specs.declared.state.Run.{Run}
 use Rattle.session.specs.declared.state.Session.{Session}
 use Rattle.session.specs.declared.state.Session.TheVariants.{Running}
@@ -25,8 +26,8 @@ use Rattle.session.specs.Answers.{bad_text, block_text, refusal_text, answer_tex
 use Rattle.session.specs.Stream.{Went, one_more, ends, first_starts, first_names, tick_answered, tick_goes, goes_on, Goes}
 
 -- the same step taken
-pub goes : {w v : Went} {s : Session} {region old : List ℕ} {at next : ℕ} {new : List ℕ} → w ≡ v → Goes w s region old at next new → Goes v s region old at next new
-goes {s = s} {region = region} {old = old} {at = at} {next = next} {new = new} e g = subst (λ (w : Went). Goes w s region old at next new) e g
+pub goes : {w v : Went} {s : Session} {region : List ℕ} {old new : Out} → w ≡ v → Goes w s region old new → Goes v s region old new
+goes {s = s} {region = region} {old = old} {new = new} e g = subst (λ (w : Went). Goes w s region old new) e g
 
 -- ---- a block starts
 

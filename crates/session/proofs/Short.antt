@@ -15,7 +15,9 @@ use Rattle.blocks.specs.declared.block.Tick.{Tick}
 use Rattle.blocks.specs.declared.named.Named.{Named}
 use Rattle.blocks.specs.declared.named.Named.TheVariants.{Nothing}
 use Rattle.blocks.specs.declared.named.Named.TheVariants as named
+use Rattle.lines.specs.Forms.{form_of}
 use Rattle.lines.specs.Lines.{first_of, later_of}
+use Rattle.text.specs.Bytes.{bytes}
 use Rattle.text.proofs.Lengths.{length_word, length_flag, length_decimal_most}
 use Rattle.session.specs.declared.state.Run.{Run}
 use Rattle.session.specs.declared.state.Session.{Session}
@@ -53,6 +55,11 @@ answer_short (TrueDelay time on_init) a = simp length-append (omega (arith, leng
 answer_short (TrueFalseHold long_true long_false) a = simp length-append (omega (arith, length_flag a.boolean))
 answer_short (TrueHoldWithReset duration) a = simp length-append (omega (arith, length_flag a.boolean))
 answer_short (LogicalVariablePulse period delta least) a = simp length-append (omega (arith, length_flag a.boolean))
+
+-- the outputs alone have a byte less
+pub outputs_short : (b : Block) (a : Answer) → length (outputs_text (form_of b).outputs a) ≤ 31
+unfolding answer_text
+outputs_short b a = omega (arith, answer_short b a, length-append (outputs_text (form_of b).outputs a) (bytes "\n"))
 
 answered_short : (region : List ℕ) (r : Run) (left : List ℕ) (a : Answer) → Short (tick_answered region r left a)
 unfolding tick_answered

@@ -9,11 +9,12 @@ use Rattle.blocks.specs.declared.named.Named.{Named}
 use Rattle.blocks.specs.declared.named.Named.TheVariants.{Nothing}
 use Rattle.blocks.specs.declared.named.Named.TheVariants as named
 use Rattle.lines.specs.Lines.{first_of, later_of}
+use Rattle.session.specs.declared.put.Out.{Out}
 use Rattle.session.specs.declared.state.Run.{Run}
 use Rattle.session.specs.declared.state.Session.{Session}
 use Rattle.session.specs.declared.state.Session.TheVariants.{Fresh, Running, Over}
 use Rattle.session.specs.Answers.{bad_text, block_text, refusal_text, counts_text, answer_text}
-use Rattle.session.specs.Put.{Put}
+use Rattle.session.specs.Put.{Put, Puts}
 
 -- ---- a line
 
@@ -87,10 +88,10 @@ module _ (region : List ℕ) where
   line_in Over line = ends []
 
 -- what code that takes the step w leaves behind
-pub record Goes (w : Went) (s : Session) (region : List ℕ) (old : List ℕ) (at next : ℕ) (new : List ℕ) : Type 0 where
+pub record Goes (w : Went) (s : Session) (region : List ℕ) (old new : Out) : Type 0 where
   pub session : s ≡ w.session
   pub words : region ≡ w.words
-  pub put : Put old at w.text next new
+  pub put : Puts old w.text new
 
 -- ---- a byte
 

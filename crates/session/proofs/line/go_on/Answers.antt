@@ -9,7 +9,7 @@ returns-then-not-later c =
     let a = c.args in
     let l = c.later_line-later in
     goes (on_bad a.region.now a.run a.line.now l.ensures (not-true l.result.ok c.if-not-later.true))
-    (record { session = refl; words = refl; put = c.put_bad-bad_end.ensures })
+    (record { session = refl; words = refl; put = c.put_bad.ensures })
 
 pub returns : goal.returns
 returns c =

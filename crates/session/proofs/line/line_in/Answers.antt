@@ -1,7 +1,7 @@
 -- `line::line_in` meets its contract: each session takes its own step. Assumes nothing.
 use mathlib.Core.Path.{refl, ap}
 use Rattle.session.specs.Stream.{line_in, first_names}
-use Rattle.session.proofs.Putting.{put_none}
+use Rattle.session.proofs.Putting.{puts_none}
 use Rattle.session.proofs.Going.{goes}
 use Rattle.session.proofs.line.line_in.Goals as goal
 
@@ -15,4 +15,4 @@ returns-in-Running c = rw c.in-Running.is c.go_on.ensures
 
 pub returns-in-Over : goal.returns-in-Over
 unfolding line_in
-returns-in-Over c = rw c.in-Over.is (record { session = refl; words = refl; put = put_none _ _ })
+returns-in-Over c = rw c.in-Over.is (record { session = refl; words = refl; put = puts_none _ })

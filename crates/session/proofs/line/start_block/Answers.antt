@@ -8,7 +8,7 @@ pub returns-then-region-n : goal.returns-then-region-n
 returns-then-region-n c =
     let a = c.args in
     goes (start_tight a.region.now a.block a.n c.if-region-n.true)
-    (record { session = refl; words = refl; put = c.put_bad-bad_end.ensures })
+    (record { session = refl; words = refl; put = c.put_bad.ensures })
 
 pub slice_bounds-start-end-2 : goal.slice_bounds-start-end-2
 slice_bounds-start-end-2 c =
@@ -19,4 +19,4 @@ pub returns : goal.returns
 returns c =
     let a = c.args in
     goes (start_runs a.region.now a.block a.n c.if-region-n.false c.start.ensures)
-    (record { session = refl; words = refl; put = c.put_block-end.ensures })
+    (record { session = refl; words = refl; put = c.put_block.ensures })

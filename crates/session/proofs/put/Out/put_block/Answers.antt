@@ -1,8 +1,5 @@
--- `answer::put_block` meets its contract: each arm writes its block's name. Assumes nothing.
-use Rattle.session.proofs.answer.put_block.Goals as goal
-
-pub returns-in-Pid : goal.returns-in-Pid
-returns-in-Pid c = rw c.in-Pid.is c.put_bytes.ensures
+-- `Out::put_block` meets its contract: each arm writes its block's name. Assumes nothing.
+use Rattle.session.proofs.put.Out.put_block.Goals as goal
 
 pub returns-in-PidWithReset : goal.returns-in-PidWithReset
 returns-in-PidWithReset c = rw c.in-PidWithReset.is c.put_bytes-in-PidWithReset.ensures
@@ -12,9 +9,6 @@ returns-in-MovingAverage c = rw c.in-MovingAverage.is c.put_bytes-in-MovingAvera
 
 pub returns-in-TimerAccumulating : goal.returns-in-TimerAccumulating
 returns-in-TimerAccumulating c = rw c.in-TimerAccumulating.is c.put_bytes-in-TimerAccumulating.ensures
-
-pub returns-in-TrueDelay : goal.returns-in-TrueDelay
-returns-in-TrueDelay c = rw c.in-TrueDelay.is c.put_bytes-in-TrueDelay.ensures
 
 pub returns-in-TrueFalseHold : goal.returns-in-TrueFalseHold
 returns-in-TrueFalseHold c = rw c.in-TrueFalseHold.is c.put_bytes-in-TrueFalseHold.ensures

@@ -1,13 +1,13 @@
 -- A turn of the loop over a chunk. Assumes nothing.
-use Prim.Native.Nat.{ℕ, ◌+◌, ◌≤◌, ◌<◌, min}
+use Prim.Native.Nat.{ℕ, ◌+◌, ◌*◌, ◌/◌, ◌≤◌, ◌<◌, min}
 use mathlib.Core.Path.{◌≡◌, refl, ap, sym, subst, ◌∙◌}
 use mathlib.Core.List.{List, [], ◌∷◌, ◌++◌}
-use mathlib.Core.Bool.{Bool, true, false}
+use mathlib.Core.Bool.{Bool, true, false, cond}
 use native.Mathlib.Omega.{arith}
 use native.Mathlib.Numerals.{add-one}
 use borrow.Author.Tests.{eq-eqb, ne_eqb, ltb-true, ltb-false}
 use lib.Dec.{ltb}
-use lib.ListN.{length, take, drop, get_or, drop_of_length-le}
+use lib.ListN.{length, length-set, length-take, set, take, drop, get_or, drop_of_length-le}
 use lib.Seq.{drop-cons, take_all}
 use Rattle.session.specs.declared.put.Out.{Out}
 use Rattle.session.specs.declared.state.Session.{Session}
@@ -40,6 +40,19 @@ take_least n l = go (ltb n (length l)) refl
         let long : length l ≤ n = ltb-false n (length l) e in
         let least : min n (length l) ≡ length l = omega arith in
         rw least (take_all (length l) l (omega arith) ∙ sym (take_all n l long))
+
+-- no more of a chunk is taken than there is room to answer
+pub part_fits : (chunk out : List ℕ) {n : ℕ} → n ≡ min (length chunk) (length out / 32) → 32 * length (take n chunk) ≤ length out
+part_fits chunk out {n} e = omega (arith, e, length-take n chunk)
+
+-- a byte that is held makes the carry no longer
+pub held_length : (carry : List ℕ) (held b : ℕ) → length (held_with carry held b) ≡ length carry
+unfolding held_with
+held_length carry held b = go (ltb held 256)
+  where
+    go : (t : Bool) → length (cond t (set carry held b) carry) ≡ length carry
+    go true = length-set carry held b
+    go false = refl
 
 byte_ends : (st : Stream) (b : ℕ) → b ≡ 10 → byte_in st b ≡ line_ends st
 unfolding byte_in

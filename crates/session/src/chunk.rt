@@ -23,8 +23,7 @@ pub struct Fed {
 }
 
 // Holds one more byte of a line. Of a line that is too long no more is held.
-fn hold_byte(carry: &mut [u8], held: usize, b: u8) -> usize
-    requires { length carry.old ≡ 256 }
+fn hold_byte(carry: &mut [u8; 256], held: usize, b: u8) -> usize
     ensures value { result ≡ held_more held }
     ensures carry_after { carry.new ≡ held_with carry.old held b }
 {
@@ -33,40 +32,6 @@ fn hold_byte(carry: &mut [u8], held: usize, b: u8) -> usize
         return held + 1;
     }
     held
-}
-
-// Takes a whole chunk.
-fn feed_all(
-    session: Session,
-    held: usize,
-    carry: &mut [u8],
-    chunk: &[u8],
-    region: &mut [u64],
-    bytes: &mut [u8],
-) -> Fed
-    requires { (length carry.old ≡ 256) × (32 * length chunk.now ≤ length bytes.old) }
-    ensures feeds { Feeds (streamed (at_hand session region.old carry.old held) chunk.now) result.session region.new carry.new result.held bytes.old result.wrote bytes.new }
-    ensures used { result.used ≡ length chunk.now }
-    ensures counts { Counts result.wrote bytes.new }
-{
-    let mut session = session;
-    let mut held = held;
-    let mut out = Out { bytes, at: 0 };
-    for &b in chunk {
-        if b == b'\n' {
-            let n = held.min(carry.len());
-            session = line_in(session, &carry[..n], region, &mut out);
-            held = 0;
-        } else {
-            held = hold_byte(carry, held, b);
-        }
-    }
-    Fed {
-        session,
-        held,
-        used: chunk.len(),
-        wrote: out.at,
-    }
 }
 
 // Takes as much of a chunk as `out` has room to answer: 32 bytes for each byte. A line that the chunk cuts is held in `carry`.
@@ -82,8 +47,25 @@ pub fn feed(
     ensures feeds { Feeds (streamed (at_hand session region.old carry.old held) (take result.used chunk.now)) result.session region.new carry.new result.held out.old result.wrote out.new }
     ensures counts { Counts result.wrote out.new }
 {
-    let n = chunk.len().min(out.len() / ROOM);
-    feed_all(session, held, carry, &chunk[..n], region, out)
+    let used = chunk.len().min(out.len() / ROOM);
+    let mut session = session;
+    let mut held = held;
+    let mut out = Out { bytes: out, at: 0 };
+    for &b in &chunk[..used] {
+        if b == b'\n' {
+            let n = held.min(carry.len());
+            session = line_in(session, &carry[..n], region, &mut out);
+            held = 0;
+        } else {
+            held = hold_byte(carry, held, b);
+        }
+    }
+    Fed {
+        session,
+        held,
+        used,
+        wrote: out.at,
+    }
 }
 
 // What ends the output.
@@ -98,28 +80,6 @@ fn put_closing(out: &mut Out<'_>, session: Session)
     }
 }
 
-fn finish_in(
-    session: Session,
-    held: usize,
-    carry: &[u8],
-    region: &mut [u64],
-    bytes: &mut [u8],
-) -> usize
-    requires { (length carry.now ≡ 256) × (length bytes.old ≡ 128) }
-    ensures finishes { Finishes (at_hand session region.old carry.now held) region.new bytes.old result bytes.new }
-    ensures counts { Counts result bytes.new }
-{
-    let mut out = Out { bytes, at: 0 };
-    if held == 0 {
-        put_closing(&mut out, session);
-        return out.at;
-    }
-    let n = held.min(carry.len());
-    let last = line_in(session, &carry[..n], region, &mut out);
-    put_closing(&mut out, last);
-    out.at
-}
-
 // Ends the input: answers a line that has no end, and writes the counts. How many bytes were written.
 pub fn finish(
     session: Session,
@@ -131,5 +91,13 @@ pub fn finish(
     ensures finishes { Finishes (at_hand session region.old carry.now held) region.new out.old result out.new }
     ensures counts { Counts result out.new }
 {
-    finish_in(session, held, carry, region, out)
+    let mut out = Out { bytes: out, at: 0 };
+    if held == 0 {
+        put_closing(&mut out, session);
+        return out.at;
+    }
+    let n = held.min(carry.len());
+    let last = line_in(session, &carry[..n], region, &mut out);
+    put_closing(&mut out, last);
+    out.at
 }

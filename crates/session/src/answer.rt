@@ -64,7 +64,7 @@ impl Out<'_> {
     }
 
     // The outputs that the block has.
-    #[tactic(auto, using(text::proofs::Lengths::length_word))]
+    #[tactic(auto, using(text::proofs::Lengths::length_word), unfolding(crate::specs::Answers::outputs_text, crate::specs::Answers::output_text))]
     fn put_outputs(&mut self, block: Block, answer: Answer)
         requires { HasRoom self.old 18 }
         ensures { Puts self.old (outputs_text (form_of block).outputs answer) self.new }

@@ -23,6 +23,7 @@ pub struct Fed {
 }
 
 // Holds one more byte of a line. Of a line that is too long no more is held.
+#[tactic(auto, unfolding(crate::specs::Stream::held_more, crate::specs::Stream::held_with))]
 fn hold_byte(carry: &mut [u8; 256], held: usize, b: u8) -> usize
     ensures value { result ≡ held_more held }
     ensures carry_after { carry.new ≡ held_with carry.old held b }

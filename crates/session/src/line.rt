@@ -88,6 +88,7 @@ fn go_on(run: Run, line: &[u8], region: &mut [u64], out: &mut Out<'_>) -> Sessio
 }
 
 // Answers a line.
+#[tactic(auto, unfolding(crate::specs::Stream::line_in), using(crate::proofs::Putting::puts_none))]
 pub(crate) fn line_in(
     session: Session,
     line: &[u8],

@@ -9,6 +9,7 @@ use blocks::{Block, Named, Tick};
 use lines::{first_line, later_line};
 
 // One more, up to the largest number.
+#[tactic(auto, unfolding(crate::specs::Stream::one_more))]
 fn one_more(n: u64) -> u64
     ensures { result ≡ one_more n }
 {
@@ -16,6 +17,7 @@ fn one_more(n: u64) -> u64
 }
 
 // Starts a block in the first n words of the region.
+#[tactic(auto, unfolding(crate::specs::Stream::first_starts))]
 fn start_block(block: Block, n: usize, region: &mut [u64], out: &mut Out<'_>) -> Session
     requires { HasRoom out.old 32 }
     ensures { Goes (first_starts region.old block n) result region.new out.old out.new }
@@ -34,6 +36,7 @@ fn start_block(block: Block, n: usize, region: &mut [u64], out: &mut Out<'_>) ->
 }
 
 // Answers the first line.
+#[tactic(auto, unfolding(crate::specs::Stream::first_names))]
 fn open_with(named: Named, region: &mut [u64], out: &mut Out<'_>) -> Session
     requires { HasRoom out.old 32 }
     ensures { Goes (first_names region.old named) result region.new out.old out.new }
@@ -51,6 +54,7 @@ fn open_with(named: Named, region: &mut [u64], out: &mut Out<'_>) -> Session
 }
 
 // Runs a tick of the block in the first words of the region.
+#[tactic(auto, unfolding(crate::specs::Stream::tick_goes, crate::specs::Stream::tick_answered), using(crate::proofs::Putting::puts_none))]
 fn tick_in(run: Run, tick: Tick, region: &mut [u64], out: &mut Out<'_>) -> Session
     requires { HasRoom out.old 32 }
     ensures { Goes (tick_goes region.old run tick) result region.new out.old out.new }
@@ -75,6 +79,7 @@ fn tick_in(run: Run, tick: Tick, region: &mut [u64], out: &mut Out<'_>) -> Sessi
 }
 
 // Answers a later line.
+#[tactic(auto, unfolding(crate::specs::Stream::goes_on))]
 fn go_on(run: Run, line: &[u8], region: &mut [u64], out: &mut Out<'_>) -> Session
     requires { HasRoom out.old 32 }
     ensures { Goes (goes_on region.old run line.now) result region.new out.old out.new }

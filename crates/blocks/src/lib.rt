@@ -21,7 +21,7 @@ use decoded::{
 use dynamics::{Answer, Length};
 use logical_variable_pulse::LogicalVariablePulse;
 use moving_average::MovingAverage;
-pub use named::{CONTROLLER_SETTINGS, Named, block_of};
+pub use named::{CONTROLLER_SETTINGS, block_of};
 use timer_accumulating::TimerAccumulating;
 use true_delay::TrueDelay;
 use true_false_hold::TrueFalseHold;

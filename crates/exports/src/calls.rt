@@ -10,16 +10,16 @@ use crate::boundary::{
     AnswerWords, LengthWords, NO_BLOCK, answer_words, length_words, no_answer, tick_of,
 };
 use crate::states::{StateWords, decoded_words, no_state};
-use blocks::{Named, block_of, decode, emit, sound, start, state_length, tick, update};
+use blocks::{block_of, decode, emit, sound, start, state_length, tick, update};
 use reals::word_of_flag;
 use runs::run;
 
 // How many words the block's region has.
+#[tactic(auto, unfolding(crate::specs::Calls::by_name))]
 pub fn oven_length(block: u64, settings: &[u64]) -> LengthWords
     ensures { result ≡ length_said (named_by block settings.now) }
 {
-    let named = block_of(block, settings);
-    let Named::Block(b) = named else {
+    let Some(b) = block_of(block, settings) else {
         return LengthWords {
             refusal: NO_BLOCK,
             length: 0,
@@ -29,39 +29,40 @@ pub fn oven_length(block: u64, settings: &[u64]) -> LengthWords
 }
 
 // Writes the words of a fresh block. The refusal number; 0 is accepted.
+#[tactic(auto, unfolding(crate::specs::Calls::by_name))]
 pub fn oven_start(block: u64, settings: &[u64], region: &mut [u64]) -> u64
     ensures { Gives (start_number (named_by block settings.now) region.old) (start_left (named_by block settings.now) region.old) result region.new }
 {
-    let named = block_of(block, settings);
-    let Named::Block(b) = named else {
+    let Some(b) = block_of(block, settings) else {
         return NO_BLOCK;
     };
     start(b, region)
 }
 
 // 1 if the region decodes, else 0.
+#[tactic(auto, unfolding(crate::specs::Calls::by_name))]
 pub fn oven_sound(block: u64, settings: &[u64], region: &[u64]) -> u64
     ensures { result ≡ sound_said (named_by block settings.now) region.now }
 {
-    let named = block_of(block, settings);
-    let Named::Block(b) = named else {
+    let Some(b) = block_of(block, settings) else {
         return 0;
     };
     word_of_flag(sound(b, region))
 }
 
 // The region taken apart.
+#[tactic(auto, unfolding(crate::specs::Calls::by_name))]
 pub fn oven_decode(block: u64, settings: &[u64], region: &[u64]) -> StateWords
     ensures { result ≡ decode_said (named_by block settings.now) region.now }
 {
-    let named = block_of(block, settings);
-    let Named::Block(b) = named else {
+    let Some(b) = block_of(block, settings) else {
         return no_state(NO_BLOCK);
     };
     decoded_words(decode(b, region))
 }
 
 // The outputs as of this tick; nothing is stored.
+#[tactic(auto, unfolding(crate::specs::Calls::by_name))]
 pub fn oven_emit(
     block: u64,
     settings: &[u64],
@@ -73,14 +74,14 @@ pub fn oven_emit(
 ) -> AnswerWords
     ensures { result ≡ emit_said (named_by block settings.now) (real_of time) (three_inputs first second third) region.now }
 {
-    let named = block_of(block, settings);
-    let Named::Block(b) = named else {
+    let Some(b) = block_of(block, settings) else {
         return no_answer();
     };
     answer_words(emit(b, tick_of(time, first, second, third), region))
 }
 
 // Stores this tick.
+#[tactic(auto, unfolding(crate::specs::Calls::by_name))]
 pub fn oven_update(
     block: u64,
     settings: &[u64],
@@ -92,14 +93,14 @@ pub fn oven_update(
 ) -> AnswerWords
     ensures { Gives (update_said (named_by block settings.now) (real_of time) (three_inputs first second third) region.old) (update_left (named_by block settings.now) (real_of time) (three_inputs first second third) region.old) result region.new }
 {
-    let named = block_of(block, settings);
-    let Named::Block(b) = named else {
+    let Some(b) = block_of(block, settings) else {
         return no_answer();
     };
     answer_words(update(b, tick_of(time, first, second, third), region))
 }
 
 // A whole tick, an emit and then an update.
+#[tactic(auto, unfolding(crate::specs::Calls::by_name))]
 pub fn oven_tick(
     block: u64,
     settings: &[u64],
@@ -111,8 +112,7 @@ pub fn oven_tick(
 ) -> AnswerWords
     ensures { Gives (tick_said (named_by block settings.now) (real_of time) (three_inputs first second third) region.old) (update_left (named_by block settings.now) (real_of time) (three_inputs first second third) region.old) result region.new }
 {
-    let named = block_of(block, settings);
-    let Named::Block(b) = named else {
+    let Some(b) = block_of(block, settings) else {
         return no_answer();
     };
     answer_words(tick(b, tick_of(time, first, second, third), region))
@@ -120,6 +120,7 @@ pub fn oven_tick(
 
 // Many whole ticks, the words of each (time and three inputs) one after the other, and so are the words of its answer (those of
 // `AnswerWords`). The refusal number of the run: 13, then 14, then 2 and 3 as of a start; 5, 6 and 7 are each tick's own.
+#[tactic(auto, unfolding(crate::specs::Calls::by_name))]
 pub fn oven_run(
     block: u64,
     settings: &[u64],
@@ -129,8 +130,7 @@ pub fn oven_run(
 ) -> u64
     ensures { RunsBy (named_by block settings.now) ticks.now region.old answers.old result region.new answers.new }
 {
-    let named = block_of(block, settings);
-    let Named::Block(b) = named else {
+    let Some(b) = block_of(block, settings) else {
         return NO_BLOCK;
     };
     run(b, ticks, region, answers)

@@ -3,7 +3,7 @@ ghost use Rattle.std.specs.Prelude.{◌≤◌, ◌≡◌, length};
 ghost use Rattle.exports.specs.Sheets.{sheet_crossed, no_sheet, tick_by, words_per_row, settings_read, row_with, rows_named, shown, Bare, Tabled, StartsBy, TicksBy};
 
 use crate::boundary::NO_BLOCK;
-use blocks::{Block, CONTROLLER_SETTINGS, Named, Tick, block_of};
+use blocks::{Block, CONTROLLER_SETTINGS, Tick, block_of};
 use reals::{real_of, word_of_flag};
 use sheet::{Row, SheetAnswer, TABLE_ROWS, Table, start_table, tick_table};
 
@@ -137,7 +137,7 @@ fn table_of(words: &[u64]) -> NamedTable
         let number = row[0];
         let stop = SETTINGS_AT + settings_read(number);
         let named = block_of(number, &row[SETTINGS_AT..stop]);
-        let Named::Block(block) = named else {
+        let Some(block) = named else {
             return read;
         };
         let whole = row_with(block, row);

@@ -2,11 +2,12 @@
 use Prim.Native.Nat.{ℕ, suc, ◌+◌, ◌≤◌, ◌<◌}
 use mathlib.Core.Path.{◌≡◌, refl, ap}
 use mathlib.Core.List.{List, [], ◌∷◌}
-use mathlib.Core.Bool.{Bool, true, false, cond}
+use mathlib.Core.Bool.{Bool, true, false, cond, ◌&&◌}
 use native.Mathlib.Numerals.{add-one}
 use native.Mathlib.Omega.{arith}
 use borrow.Author.Tests.{eq-eqb, ne_eqb, eqb-true}
 use lib.Dec.{eqb}
+use lib.Pointwise.{pointwise}
 use lib.ListN.{length, drop, get_or, drop_of_length-le}
 use lib.Seq.{drop-cons}
 use Rattle.text.specs.Bytes.{same_list}
@@ -25,6 +26,18 @@ module _ (a b : List ℕ) (i : ℕ) (in_a : i < length a) (in_b : i < length b) 
 pub same_end : (a b : List ℕ) (i : ℕ) → length a ≤ i → length b ≤ i → same_list (drop i a) (drop i b) ≡ true
 unfolding same_list
 same_end a b i h g = rw (drop_of_length-le a h, drop_of_length-le b g)
+
+-- `==` of the library compares them so
+pub same_pointwise : (a b : List ℕ) → pointwise eqb a b ≡ same_list a b
+unfolding same_list
+same_pointwise [] [] = refl
+same_pointwise [] (y ∷ b) = refl
+same_pointwise (x ∷ a) [] = refl
+same_pointwise (x ∷ a) (y ∷ b) = go (eqb x y) (same_pointwise a b)
+  where
+    go : (t : Bool) → pointwise eqb a b ≡ same_list a b → (t && pointwise eqb a b) ≡ cond t (same_list a b) false
+    go true e = e
+    go false e = refl
 
 -- lists of two lengths are not the same
 pub same_length : (a b : List ℕ) → (length a ≡ length b → ⊥) → same_list a b ≡ false
@@ -49,6 +62,14 @@ same_equal (x ∷ a) (y ∷ b) e = go (eqb x y) refl (same_equal a b) e
     go : (t : Bool) → eqb x y ≡ t → (same_list a b ≡ true → a ≡ b) → cond t (same_list a b) false ≡ true → (x ∷ a) ≡ (y ∷ b)
     go true s rest h = let first = eqb-true x y s in let later = rest h in cc
     go false s rest h = let z : ◌≡◌ {A = ℕ} 0 1 = cc in absurd (omega arith)
+
+-- lists that differ at a place are not the same
+pub same_apart : (a b : List ℕ) (i : ℕ) → (get_or a i 0 ≡ get_or b i 0 → ⊥) → same_list a b ≡ false
+same_apart a b i n = go (same_list a b) refl
+  where
+    go : (t : Bool) → same_list a b ≡ t → t ≡ false
+    go true e = let same = same_equal a b e in absurd (n (ap (λ (l : List ℕ). get_or l i 0) same))
+    go false e = refl
 
 -- a list is the same as itself
 pub same_self : (a : List ℕ) → same_list a a ≡ true

@@ -9,7 +9,7 @@ use borrow.Author.Tests.{lt-ltb, le-ltb}
 use lib.Dec.{lit<}
 use lib.ListN.{length, drop, get_or, drop_of_length-le}
 use lib.Seq.{drop-cons}
-use Rattle.text.specs.declared.word.Item.TheVariants.{Word, Bad}
+use Rattle.std.specs.Prelude.{Some, None}
 use Rattle.text.specs.Word.{digit_value, hex_from}
 
 -- a number of i digits and one digit more
@@ -29,11 +29,11 @@ module _ (n : ℕ) (s : List ℕ) (i : ℕ) (inside : i < length s) where
   unfolding hex_from
   hex_digit d = rw (drop-cons s i 0, lt-ltb _ _ d, add-one)
 
-  pub hex_other : 16 ≤ digit_value (get_or s i 0) → hex_from n (drop i s) ≡ Bad
+  pub hex_other : 16 ≤ digit_value (get_or s i 0) → hex_from n (drop i s) ≡ None
   unfolding hex_from
   hex_other d = rw (drop-cons s i 0, le-ltb _ _ d)
 
 -- no digit is left
-pub hex_end : (n : ℕ) (s : List ℕ) (i : ℕ) → length s ≤ i → hex_from n (drop i s) ≡ Word n
+pub hex_end : (n : ℕ) (s : List ℕ) (i : ℕ) → length s ≤ i → hex_from n (drop i s) ≡ Some n
 unfolding hex_from
 hex_end n s i h = rw (drop_of_length-le s h)

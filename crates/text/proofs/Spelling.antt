@@ -1,15 +1,14 @@
 -- A number spelled from its last digit on.
-use Prim.Native.Nat.{ℕ, zero, suc, ◌+◌, ◌-◌, ◌/◌, ◌%◌, ◌^◌, ◌<◌}
+use Prim.Native.Nat.{ℕ, zero, suc, ◌+◌, ◌/◌, ◌%◌, ◌^◌, ◌≤◌, ◌<◌}
 use mathlib.Core.Path.{◌≡◌, refl, sym, ap, ◌∙◌}
 use mathlib.Core.List.{List, ◌∷◌, ◌++◌}
 use native.Mathlib.Nat.{pow-suc}
 use native.Mathlib.Omega.{arith}
-use borrow.Author.Rules.{part_to_end}
 use lib.Dec.{lit<}
-use lib.ListN.{length, take, drop, set, replicate, length-set, length-drop, length-replicate, length-append, take-append-drop}
-use lib.Seq.{append_snoc, drop_at, drop-cons, drop-set-lt, lt-length-set, get_or-set_same, take-set-le, take-take}
-use Rattle.text.specs.declared.decimal.Decimal.{Decimal}
-use Rattle.text.specs.Decimal.{decimal_text, Spelled}
+use lib.ListN.{length, take, drop, set, replicate, length-set, length-drop, length-take, length-replicate, take-append-drop}
+use lib.Seq.{append_snoc, drop-cons, drop-set-lt, lt-length-set, get_or-set_same, take-set-le, take-take}
+use Rattle.text.specs.declared.decimal.Decimal.TheInside.{Inside}
+use Rattle.text.specs.Decimal.{decimal_text, counting, Padded, Spelled}
 use Rattle.text.proofs.Decimals.{ahead, ahead_none, ahead_some, decimal_last}
 
 -- of twenty places those from `start` on are spelled, and before them come zeros and the digits of `rest`
@@ -69,35 +68,32 @@ spelling_room n digits zero rest s h = absurd (omega (arith, s.room))
 spelling_room n digits (suc k) rest s h = omega arith
 
 -- nothing is still to be spelled
-pub spelling_end : (n : ℕ) (digits : List ℕ) (start rest : ℕ) → Spelling n digits start rest → rest ≡ 0
-    → Spelled n (record { digits = digits; start = start })
-spelling_end n digits start rest s none =
-    let spelled : drop start digits ≡ decimal_text n = rw (none, ahead_none) at s.whole in
-    record {
-      digits = sym (take-append-drop start digits) ∙ rw (s.zeros, spelled);
-      all = omega (arith, ap length spelled, length-drop start digits);
-    }
+pub spelling_end : (n : ℕ) (digits : List ℕ) (start rest : ℕ) → Spelling n digits start rest → rest ≡ 0 → drop start digits ≡ decimal_text n
+spelling_end n digits start rest s none = rw (none, ahead_none) at s.whole
 
--- from where the first digit that counts stands on, there is the number's text
-pub spelled_text : {n : ℕ} {d : Decimal} → Spelled n d → drop d.start d.digits ≡ decimal_text n
-spelled_text {n} {d} s = rw s.digits (drop_at (replicate d.start 48) (decimal_text n) d.start (length-replicate d.start 48))
+pub spelling_padded : (n : ℕ) (digits : List ℕ) (start rest : ℕ) → Spelling n digits start rest
+    → Padded (record { digits = digits; start = start })
+spelling_padded n digits start rest s = record { zeros = s.zeros; all = s.size }
 
-pub spelled_length : {n : ℕ} {d : Decimal} → Spelled n d → length d.digits ≡ 20
-spelled_length {n} {d} s = rw s.digits (length-append (replicate d.start 48) (decimal_text n) ∙ omega (arith, length-replicate {A = ℕ} d.start 48, s.all))
+-- ---- what holds of every value of the type
 
--- the same, as a part that ends with the last digit
-pub spelled_part : {n : ℕ} {d : Decimal} → Spelled n d → take (20 - d.start) (drop d.start d.digits) ≡ decimal_text n
-spelled_part {n} {d} s =
-    ap (λ (k : ℕ). take (k - d.start) (drop d.start d.digits)) (sym (spelled_length s))
-    ∙ part_to_end d.digits d.start
-    ∙ spelled_text s
+-- the first digit that counts has a place, or the end
+pub padded_start : {d : Inside} → Padded d → d.start ≤ 20
+padded_start {d} p = omega (arith, ap length p.zeros, length-take {A = ℕ} d.start d.digits, length-replicate {A = ℕ} d.start 48, p.all)
 
--- the contract admits one result only
-pub spelled_once : {n : ℕ} {d e : Decimal} → Spelled n d → Spelled n e → d ≡ e
+-- if the digits that count are those of n, they stand behind zeros, twenty in all
+pub spelled : {n : ℕ} {d : Inside} → Padded d → counting d ≡ decimal_text n → Spelled n d
+spelled {n} {d} p is = record {
+  digits = sym (take-append-drop d.start d.digits) ∙ rw (p.zeros, is);
+  all = omega (arith, ap length is, length-drop d.start d.digits, p.all, padded_start p);
+}
+
+-- and only one value has such
+pub spelled_once : {n : ℕ} {d e : Inside} → Spelled n d → Spelled n e → d ≡ e
 spelled_once {n} {d} {e} s t =
     let same : d.start ≡ e.start = omega (arith, s.all, t.all) in
-    ap (λ (l : List ℕ). spelled l d.start) (s.digits ∙ ap (λ (k : ℕ). replicate k 48 ++ decimal_text n) same ∙ sym t.digits)
-    ∙ ap (spelled e.digits) same
+    ap (λ (l : List ℕ). made l d.start) (s.digits ∙ ap (λ (k : ℕ). replicate k 48 ++ decimal_text n) same ∙ sym t.digits)
+    ∙ ap (made e.digits) same
   where
-    spelled : List ℕ → ℕ → Decimal
-    spelled l k = record { digits = l; start = k }
+    made : List ℕ → ℕ → Inside
+    made l k = record { digits = l; start = k }

@@ -29,12 +29,12 @@ row_with-whole-requires c = row_whole _ c.loop-at.invariant c.loop-at-test.true
 
 pub loop-at-preserved-then-place-lt-TABLE_ROWS : goal.loop-at-preserved-then-place-lt-TABLE_ROWS
 loop-at-preserved-then-place-lt-TABLE_ROWS c =
-    let named = row_named _ _ c.settings_read-stop.ensures c.block_of-named.ensures c.in-Block.is c.row_with-whole.ensures in
+    let named = row_named _ _ c.settings_read-stop.ensures c.block_of-named.ensures c.in-Some.is c.row_with-whole.ensures in
     tabling_more _ c.loop-at.invariant c.loop-at-test.true named
 
 pub loop-at-preserved : goal.loop-at-preserved
 loop-at-preserved c =
-    let named = row_named _ _ c.settings_read-stop.ensures c.block_of-named.ensures c.in-Block.is c.row_with-whole.ensures in
+    let named = row_named _ _ c.settings_read-stop.ensures c.block_of-named.ensures c.in-Some.is c.row_with-whole.ensures in
     tabling_past _ c.loop-at.invariant c.loop-at-test.true named c.if-place-lt-TABLE_ROWS.false
 
 pub returns : goal.returns

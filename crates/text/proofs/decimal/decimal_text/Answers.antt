@@ -2,7 +2,7 @@
 use Prim.Native.Nat.{ℕ, suc, ◌-◌}
 use mathlib.Core.Path.{◌≡◌, subst}
 use native.Mathlib.Omega.{arith}
-use Rattle.text.proofs.Spelling.{Spelling, spelling_last, spelling_next, spelling_room, spelling_end}
+use Rattle.text.proofs.Spelling.{Spelling, spelling_last, spelling_next, spelling_room, spelling_end, spelling_padded}
 use Rattle.text.proofs.decimal.decimal_text.Goals as goal
 
 pub loop-rest-init : goal.loop-rest-init
@@ -23,3 +23,8 @@ pub returns : goal.returns
 returns c =
     let l = c.loop-rest in
     spelling_end c.args.n l.digits l.start l.rest l.invariant (omega arith)
+
+pub invariant_of-result : goal.invariant_of-result
+invariant_of-result c =
+    let l = c.loop-rest in
+    spelling_padded c.args.n l.digits l.start l.rest l.invariant

@@ -5,7 +5,7 @@ ghost use Rattle.session.specs.Stream.{one_more, first_starts, first_names, tick
 
 use crate::put::Out;
 use crate::state::{Run, Session};
-use blocks::{Block, Named, Tick};
+use blocks::{Block, Tick};
 use lines::{first_line, later_line};
 
 // One more, up to the largest number.
@@ -37,11 +37,11 @@ fn start_block(block: Block, n: usize, region: &mut [u64], out: &mut Out<'_>) ->
 
 // Answers the first line.
 #[tactic(auto, unfolding(crate::specs::Stream::first_names))]
-fn open_with(named: Named, region: &mut [u64], out: &mut Out<'_>) -> Session
+fn open_with(named: Option<Block>, region: &mut [u64], out: &mut Out<'_>) -> Session
     requires { HasRoom out.old 32 }
     ensures { Goes (first_names region.old named) result region.new out.old out.new }
 {
-    let Named::Block(block) = named else {
+    let Some(block) = named else {
         out.put_bad();
         return Session::Over;
     };
@@ -84,12 +84,11 @@ fn go_on(run: Run, line: &[u8], region: &mut [u64], out: &mut Out<'_>) -> Sessio
     requires { HasRoom out.old 32 }
     ensures { Goes (goes_on region.old run line.now) result region.new out.old out.new }
 {
-    let later = later_line(run.block, line);
-    if !later.ok {
+    let Some(tick) = later_line(run.block, line) else {
         out.put_bad();
         return Session::Running(run);
-    }
-    tick_in(run, later.tick, region, out)
+    };
+    tick_in(run, tick, region, out)
 }
 
 // Answers a line.

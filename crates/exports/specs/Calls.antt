@@ -1,14 +1,14 @@
 -- The calls over words, by the block that the words name; words that name none are refused with 13. Definitions only.
 use Rattle.std.specs.Prelude.{ℕ, ◌≡◌, Option, Some, None, List, Float}
 use Rattle.reals.specs.Words.{word_of_flag}
-use Rattle.dynamics.specs.Answer.{silent}
+use Rattle.dynamics.specs.Answer.{silent, accept}
 use Rattle.dynamics.specs.Machine.{length_answer, start_refusal, decode_refusal, started_words, is_sound, emit_answer, update_answer, updated_words, tick_answer}
 use Rattle.dynamics.specs.declared.call.Inputs.{Inputs}
 use Rattle.blocks.specs.Block.{machine_of}
-use Rattle.blocks.specs.Decoded.{opened}
+use Rattle.blocks.specs.Decoded.{state_of}
 use Rattle.blocks.specs.declared.block.Block.{Block}
 use Rattle.runs.specs.Run.{run_refusal, ran_region, ran_says}
-use Rattle.exports.specs.Boundary.{no_block, answer_crossed, length_words, decoded_words, no_state}
+use Rattle.exports.specs.Boundary.{no_block, answer_crossed, length_words, state_words, no_state}
 use Rattle.exports.specs.declared.boundary.AnswerWords.{AnswerWords}
 use Rattle.exports.specs.declared.boundary.LengthWords.{LengthWords}
 use Rattle.exports.specs.declared.states.StateWords.{StateWords}
@@ -33,7 +33,10 @@ module _ (n : Option Block) where
     sound_said = by_name n (λ b. word_of_flag (is_sound (machine_of b) w)) 0
 
     abbrev pub decode_said : StateWords
-    decode_said = by_name n (λ b. decoded_words (opened b (decode_refusal (machine_of b) w) w)) (no_state no_block)
+    decode_said =
+        by_name n
+        (λ b. accept (decode_refusal (machine_of b) w) (state_words (state_of b w)) (no_state (decode_refusal (machine_of b) w)))
+        (no_state no_block)
 
   module _ (time : Float) (i : Inputs) (w : List ℕ) where
     abbrev pub emit_said : AnswerWords

@@ -6,9 +6,7 @@ ghost use Rattle.blocks.specs.Named.{named_by};
 ghost use Rattle.exports.specs.Boundary.{three_inputs};
 ghost use Rattle.exports.specs.Calls.{length_said, start_number, start_left, sound_said, decode_said, emit_said, update_said, update_left, tick_said, RunsBy};
 
-use crate::boundary::{
-    AnswerWords, LengthWords, NO_BLOCK, answer_words, length_words, no_answer, tick_of,
-};
+use crate::boundary::{AnswerWords, LengthWords, NO_BLOCK, no_answer, tick_of};
 use crate::states::{StateWords, decoded_words, no_state};
 use blocks::{block_of, decode, emit, sound, start, state_length, tick, update};
 use reals::word_of_flag;
@@ -25,7 +23,7 @@ pub fn oven_length(block: u64, settings: &[u64]) -> LengthWords
             length: 0,
         };
     };
-    length_words(state_length(b))
+    state_length(b).into()
 }
 
 // Writes the words of a fresh block. The refusal number; 0 is accepted.
@@ -77,7 +75,7 @@ pub fn oven_emit(
     let Some(b) = block_of(block, settings) else {
         return no_answer();
     };
-    answer_words(emit(b, tick_of(time, first, second, third), region))
+    emit(b, tick_of(time, first, second, third), region).into()
 }
 
 // Stores this tick.
@@ -96,7 +94,7 @@ pub fn oven_update(
     let Some(b) = block_of(block, settings) else {
         return no_answer();
     };
-    answer_words(update(b, tick_of(time, first, second, third), region))
+    update(b, tick_of(time, first, second, third), region).into()
 }
 
 // A whole tick, an emit and then an update.
@@ -115,7 +113,7 @@ pub fn oven_tick(
     let Some(b) = block_of(block, settings) else {
         return no_answer();
     };
-    answer_words(tick(b, tick_of(time, first, second, third), region))
+    tick(b, tick_of(time, first, second, third), region).into()
 }
 
 // Many whole ticks, the words of each (time and three inputs) one after the other, and so are the words of its answer (those of

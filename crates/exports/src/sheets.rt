@@ -24,15 +24,16 @@ pub struct SheetWords {
     pub warning: u64,
 }
 
-// What a sheet answers, in words.
-#[tactic(auto, unfolding(crate::specs::Sheets::sheet_crossed))]
-fn sheet_words(a: SheetAnswer) -> SheetWords
-    ensures { result ≡ sheet_crossed a }
-{
-    SheetWords {
-        refusal: a.refusal,
-        row: a.row as u64,
-        warning: word_of_flag(a.warning),
+impl From<SheetAnswer> for SheetWords {
+    ghost from_gives = { λ a w. w ≡ sheet_crossed a };
+
+    #[tactic(auto, unfolding(crate::specs::Sheets::sheet_crossed))]
+    fn from(a: SheetAnswer) -> SheetWords {
+        SheetWords {
+            refusal: a.refusal,
+            row: a.row as u64,
+            warning: word_of_flag(a.warning),
+        }
     }
 }
 
@@ -133,7 +134,7 @@ pub fn oven_sheet_start(rows: &[u64], region: &mut [u64]) -> SheetWords
     let Some(table) = table_of(rows) else {
         return no_sheet();
     };
-    sheet_words(start_table(table, region))
+    start_table(table, region).into()
 }
 
 // One tick of the sheet over these rows. 13 comes first, as for a start.
@@ -149,5 +150,5 @@ pub fn oven_sheet_tick(
     let Some(table) = table_of(rows) else {
         return no_sheet();
     };
-    sheet_words(tick_table(table, tick_by(time, words), region, answers))
+    tick_table(table, tick_by(time, words), region, answers).into()
 }

@@ -19,6 +19,7 @@ pub struct Stored {
 }
 
 // The answers that start at `at`.
+#[tactic(auto, unfolding(crate::specs::Answer::stored_at))]
 pub(crate) fn stored_at(words: &[u64], at: usize) -> Stored
     requires { at + 5 ≤ length words.now }
     ensures { result ≡ stored_at words.now at }
@@ -33,6 +34,7 @@ pub(crate) fn stored_at(words: &[u64], at: usize) -> Stored
 }
 
 // Whether an answer has these words.
+#[tactic(auto, unfolding(crate::specs::Answer::answers_with))]
 fn answers_with(a: Answer, refusal: u64, real: u64, boolean: u64, warning: u64) -> bool
     ensures { result ≡ answers_with a refusal real boolean warning }
 {

@@ -9,7 +9,7 @@ use reals::{word_of, word_of_flag};
 pub const STORED_LEN: usize = 5;
 
 // What the emit and the update answer.
-#[derive(Clone, Copy)]
+#[derive(Clone, Copy, Debug, PartialEq, Eq)]
 pub struct Stored {
     pub refusal: u64,
     pub real: u64,

@@ -3,9 +3,9 @@ ghost use Rattle.std.specs.Prelude.{◌≡◌, ◌+◌, ◌≤◌, length};
 ghost use Rattle.replay.specs.Call.{input_at, tick_at};
 ghost use Rattle.replay.specs.Replay.{Replayed};
 
-use crate::compare::{Differs, compare};
+use crate::compare::{Call, Differs};
 use crate::form::Form;
-use crate::region::Regions;
+use crate::region::{Regions, Words};
 use blocks::{Tick, block_of};
 use reals::real_of;
 
@@ -48,13 +48,9 @@ pub(crate) fn replay(form: Form, words: &[u64], regions: &mut Regions<'_>) -> Re
     }
     let block = block_of(form.number, &words[..settings]).ok_or(Differs::Malformed)?;
     let tick = tick_at(words, settings, inputs);
-    compare(
-        block,
-        tick,
-        form.pairs,
+    let line = Words {
         words,
-        at + 1,
-        &mut region[..n],
-        &mut expected[..n],
-    )
+        pairs: form.pairs,
+    };
+    Call { block, tick }.compare(line, at + 1, &mut region[..n], &mut expected[..n])
 }

@@ -41,36 +41,38 @@ pub struct Form {
     ghost inputs_fit: { inputs ≤ 3 },
 }
 
-// Only the moving average has a region of so many words.
-pub fn form_of(kind: Kind) -> Form {
-    let (number, settings, inputs) = match kind {
-        Kind::Pid => (0, CONTROLLER_SETTINGS, 2),
-        Kind::PidWithReset => (1, CONTROLLER_SETTINGS, 3),
-        Kind::MovingAverage => (2, 1, 1),
-        Kind::TimerAccumulating => (3, 1, 2),
-        Kind::TrueDelay => (4, 2, 1),
-        Kind::TrueFalseHold => (5, 2, 1),
-        Kind::TrueHoldWithReset => (6, 1, 2),
-        Kind::LogicalVariablePulse => (7, 3, 1),
-    };
-    Form {
-        number,
-        settings,
-        inputs,
-        pairs: kind == Kind::MovingAverage,
+impl Kind {
+    // Only the moving average has a region of so many words.
+    pub fn form(self) -> Form {
+        let (number, settings, inputs) = match self {
+            Kind::Pid => (0, CONTROLLER_SETTINGS, 2),
+            Kind::PidWithReset => (1, CONTROLLER_SETTINGS, 3),
+            Kind::MovingAverage => (2, 1, 1),
+            Kind::TimerAccumulating => (3, 1, 2),
+            Kind::TrueDelay => (4, 2, 1),
+            Kind::TrueFalseHold => (5, 2, 1),
+            Kind::TrueHoldWithReset => (6, 1, 2),
+            Kind::LogicalVariablePulse => (7, 3, 1),
+        };
+        Form {
+            number,
+            settings,
+            inputs,
+            pairs: self == Kind::MovingAverage,
+        }
     }
-}
 
-// The file that has its calls.
-pub fn file_of(kind: Kind) -> &'static str {
-    match kind {
-        Kind::Pid => "Pid.txt",
-        Kind::PidWithReset => "PidWithReset.txt",
-        Kind::MovingAverage => "MovingAverage.txt",
-        Kind::TimerAccumulating => "TimerAccumulating.txt",
-        Kind::TrueDelay => "TrueDelay.txt",
-        Kind::TrueFalseHold => "TrueFalseHold.txt",
-        Kind::TrueHoldWithReset => "TrueHoldWithReset.txt",
-        Kind::LogicalVariablePulse => "LogicalVariablePulse.txt",
+    // The file that has its calls.
+    pub fn file(self) -> &'static str {
+        match self {
+            Kind::Pid => "Pid.txt",
+            Kind::PidWithReset => "PidWithReset.txt",
+            Kind::MovingAverage => "MovingAverage.txt",
+            Kind::TimerAccumulating => "TimerAccumulating.txt",
+            Kind::TrueDelay => "TrueDelay.txt",
+            Kind::TrueFalseHold => "TrueFalseHold.txt",
+            Kind::TrueHoldWithReset => "TrueHoldWithReset.txt",
+            Kind::LogicalVariablePulse => "LogicalVariablePulse.txt",
+        }
     }
 }

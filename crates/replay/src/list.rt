@@ -4,7 +4,7 @@ ghost use Rattle.replay.specs.List.{LineShown, AllHold, Counted};
 
 use crate::call::replay;
 use crate::compare::Differs;
-use crate::form::{Form, KINDS, Kind, file_of, form_of};
+use crate::form::{Form, KINDS, Kind};
 use crate::line::read_words;
 use crate::region::Regions;
 use crate::report::{print_tally, tell};
@@ -15,7 +15,7 @@ use std::rt::Files;
 use text::end_of;
 
 // How many calls were replayed, and how many of them differ.
-#[derive(Clone, Copy)]
+#[derive(Clone, Copy, Debug, PartialEq, Eq)]
 pub struct Tally {
     pub calls: u64,
     pub differ: u64,
@@ -51,6 +51,7 @@ fn replay_lines(
 {
     let mut calls: u64 = 0;
     let mut differ: u64 = 0;
+    // The library's `split` makes an empty piece of the end behind a last line feed, and of no text at all, which are no lines here.
     let mut at = 0;
     while at < lines.len() {
         let end = end_of(lines, at, b'\n');
@@ -65,7 +66,8 @@ fn replay_lines(
     Tally { calls, differ }
 }
 
-// Reads until there is no more room, the input ends or a read fails. How many bytes were read.
+// Reads until there is no more room, the input ends or a read fails. How many bytes were read. Of the library's calls that read more
+// than once `read_exact` does not say how many came, and `read_to_end` takes memory.
 fn read_full(input: &mut impl Read, bytes: &mut [u8]) -> usize
     ensures { result ≤ length bytes.new }
 {
@@ -99,9 +101,9 @@ fn replay_list(
 ) -> Tally
     ensures { Counted (length bytes.old) result }
 {
-    let file = file_of(kind);
+    let file = kind.file();
     let n = read_file(rt, file, bytes);
-    let tally = replay_lines(rt, form_of(kind), file, &bytes[..n], regions);
+    let tally = replay_lines(rt, kind.form(), file, &bytes[..n], regions);
     print_tally(rt, file, tally);
     tally
 }

@@ -42,21 +42,30 @@ fn put_pairs(words: &[u64], at: usize, region: &mut [u64]) -> Option<usize>
     Some(next)
 }
 
-// Puts in the words from `at` on, in the form in which the list has them.
-pub fn put(pairs: bool, words: &[u64], at: usize, region: &mut [u64]) -> Option<usize>
-    ensures { PutIn pairs words.now at region.old result region.new }
-{
-    if pairs {
-        put_pairs(words, at, region)
-    } else {
-        put_all(words, at, region)
-    }
+// The words of a line, and whether a region's stand among them by pairs.
+#[derive(Clone, Copy)]
+pub struct Words<'a> {
+    pub words: &'a [u64],
+    pub pairs: bool,
 }
 
-// The same on a region that holds zeros.
-pub fn put_afresh(pairs: bool, words: &[u64], at: usize, region: &mut [u64]) -> Option<usize>
-    ensures { PutIn pairs words.now at (replicate (length region.old) 0) result region.new }
-{
-    region.fill(0);
-    put(pairs, words, at, region)
+impl Words<'_> {
+    // Puts in the words from `at` on, in the form in which the list has them.
+    pub fn put(self, at: usize, region: &mut [u64]) -> Option<usize>
+        ensures { PutIn self.entry.pairs self.entry.words.now at region.old result region.new }
+    {
+        if self.pairs {
+            put_pairs(self.words, at, region)
+        } else {
+            put_all(self.words, at, region)
+        }
+    }
+
+    // The same on a region that holds zeros.
+    pub fn put_afresh(self, at: usize, region: &mut [u64]) -> Option<usize>
+        ensures { PutIn self.entry.pairs self.entry.words.now at (replicate (length region.old) 0) result region.new }
+    {
+        region.fill(0);
+        self.put(at, region)
+    }
 }

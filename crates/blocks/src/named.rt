@@ -10,7 +10,7 @@ use reals::{flag_of, real_of};
 // How many settings a controller has.
 pub const CONTROLLER_SETTINGS: usize = 13;
 
-// The type that a word names, if it names one.
+// The type that a word names, if it names one. C hands types and blocks as numbers. No `TryFrom`: its error would say nothing.
 fn controller_type_of(w: u64) -> Option<ControllerType>
     ensures { result ≡ then_some (ltb w 4) (controller_type_of w) }
 {

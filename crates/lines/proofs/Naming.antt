@@ -12,6 +12,7 @@ use lib.Pointwise.{pointwise}
 use lib.Seq.{take_at}
 use Rattle.std.specs.Prelude.{Option, Some, None, option_and_then}
 use Rattle.std.specs.Bool.{then_some}
+use Rattle.std.proofs.lemmas.List.{length-map}
 use Rattle.std.proofs.lemmas.Option.{none-some}
 use Rattle.std.specs.List.{position, position_or_len}
 use Rattle.text.specs.Bytes.{same_list}
@@ -29,19 +30,15 @@ use Rattle.lines.proofs.Words.{Counts, counted}
 pub placed : {X : Type 0} (named : X → List ℕ) (name : List ℕ) (rows : List X) (fs : List Form) → map named rows ≡ map (λ (f : Form). f.name) fs
     → position (λ x. pointwise eqb name (named x)) rows ≡ then_some (ltb (rows_before name fs) (length fs)) (rows_before name fs)
 unfolding rows_before
-placed {X} named name rows fs e = rw (before rows fs e, long rows fs e) (told (ltb (rows_before name fs) (length fs)) (rows_before name fs))
+placed {X} named name rows fs e =
+    let long : length rows ≡ length fs = sym (length-map rows named) ∙ ap length e ∙ length-map fs (λ (f : Form). f.name) in
+    rw (before rows fs e, long) (told (ltb (rows_before name fs) (length fs)) (rows_before name fs))
   where
-    long : (rows : List X) (fs : List Form) → map named rows ≡ map (λ (f : Form). f.name) fs → length rows ≡ length fs
-    long [] [] e = refl
-    long [] (f ∷ fs) e = let z : ◌≡◌ {A = ℕ} 0 1 = cc in absurd (omega arith)
-    long (x ∷ rows) [] e = let z : ◌≡◌ {A = ℕ} 0 1 = cc in absurd (omega arith)
-    long (x ∷ rows) (f ∷ fs) e = ap suc (long rows fs cc)
-
     before : (rows : List X) (fs : List Form) → map named rows ≡ map (λ (f : Form). f.name) fs
         → position_or_len (λ x. pointwise eqb name (named x)) rows ≡ rows_before name fs
     before [] [] e = refl
-    before [] (f ∷ fs) e = let z : ◌≡◌ {A = ℕ} 0 1 = cc in absurd (omega arith)
-    before (x ∷ rows) [] e = let z : ◌≡◌ {A = ℕ} 0 1 = cc in absurd (omega arith)
+    before [] (f ∷ fs) e = cc
+    before (x ∷ rows) [] e = cc
     before (x ∷ rows) (f ∷ fs) e =
         let here : named x ≡ f.name = cc in
         let later : map named rows ≡ map (λ (f : Form). f.name) fs = cc in

@@ -1,5 +1,5 @@
 -- A later line by its parts: the words read, and the tick that they say. Assumes nothing.
-use Prim.Native.Nat.{ℕ, zero, suc, ◌≤◌, ◌<◌}
+use Prim.Native.Nat.{ℕ, zero, suc, ◌≤◌}
 use mathlib.Core.Path.{◌≡◌, refl}
 use mathlib.Core.List.{List, [], ◌∷◌, ◌++◌}
 use lib.ListN.{length, get_or, replicate}
@@ -7,7 +7,7 @@ use Rattle.std.specs.Prelude.{Option, Some, None, option_map}
 use Rattle.blocks.specs.declared.block.Block.{Block}
 use Rattle.lines.specs.Lines.{tick_classes, tick_with, later_with, later_of}
 use Rattle.lines.specs.Values.{items_from, words_said, laid_out}
-use Rattle.lines.proofs.Items.{items_short, items_long}
+use Rattle.lines.proofs.Items.{items_short}
 
 -- zeros behind words are as no words
 zeros : (k i : ℕ) → get_or {A = ℕ} (replicate k 0) i 0 ≡ 0
@@ -30,8 +30,3 @@ pub later_heard : (b : Block) (line : List ℕ) → length line ≤ 255
     → later_of b line ≡ option_map tick_with (laid_out (words_said (tick_classes b) (items_from line 0)))
 unfolding later_of
 later_heard b line h = rw (items_short line h) (heard (words_said (tick_classes b) (items_from line 0)))
-
--- a line too long brings none
-pub later_long : (b : Block) (line : List ℕ) → 255 < length line → later_of b line ≡ None
-unfolding later_of words_said
-later_long b line h = rw (items_long line h)

@@ -36,7 +36,7 @@ fn tick_with(words: [u64; 16]) -> Tick
 }
 
 // The tick that a later line brings; none if the line is malformed.
-#[tactic(auto, using(crate::proofs::Ticking::later_heard, crate::proofs::Ticking::later_long))]
+#[tactic(auto, using(crate::proofs::Ticking::later_heard, crate::proofs::Kept::later_long))]
 pub fn later_line(block: Block, line: &[u8]) -> Option<Tick>
     ensures { result ≡ later_of block line.now }
 {

@@ -4,7 +4,8 @@ ghost use Rattle.lines.specs.Values.{item_of, items_from, words_said, laid_out};
 
 use text::{end_of, read_flag, read_type, read_word};
 
-// An item of a class: r a real, c a controller type, b a boolean.
+// An item of a class: r a real, c a controller type, b a boolean. Classes stay bytes: the table of forms has them so (`forms`), and a
+// line's classes read as one word, b"crrb", where a list of an enum's names would not.
 #[tactic(auto, unfolding(crate::specs::Values::item_of))]
 fn read_item(class: u8, s: &[u8]) -> Option<u64>
     ensures { result ≡ item_of class s.now }

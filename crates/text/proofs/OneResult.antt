@@ -6,7 +6,6 @@ use Rattle.text.proofs.word.word_text.Reads as word_text
 use Rattle.text.proofs.flag.read_flag.Reads as read_flag
 use Rattle.text.proofs.flag.flag_digit.Reads as flag_digit
 use Rattle.text.proofs.controller_type.read_type.Reads as read_type
-use Rattle.text.proofs.bytes.same.Reads as same
 use Rattle.text.proofs.stretch.end_of.Reads as end_of
 use Rattle.text.proofs.decimal.decimal_text.Reads as decimal_text
 use Rattle.text.proofs.decimal.Decimal.as_slice.Reads as as_slice
@@ -25,9 +24,6 @@ flag_digit_once = equation_once
 
 pub read_type_once : Once read_type.Post
 read_type_once = equation_once
-
-pub same_once : Once same.Post
-same_once = equation_once
 
 pub end_of_once : Once end_of.Post
 end_of_once = record { alike = λ κs a x y s t p q. p.0 ∙ sym q.0 }

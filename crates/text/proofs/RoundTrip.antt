@@ -101,7 +101,7 @@ write_digits (b ∷ s) n v e = next (ltb (digit_value b) 16) refl e (write_digit
           rw (rest.0, digit, glyph_value b small),
           rw (pow-suc, ← div-div-eq-div-mul v (16 ^ length s) 16) above,
         )
-    next false t e more = let z : ◌≡◌ {A = ℕ} 0 1 = cc in absurd (omega arith)
+    next false t e more = cc
 
 -- what reads as a word is sixteen digits
 word_digits : (s : List ℕ) (w : ℕ) → word_item s ≡ Some w → (length s ≡ 16) × (hex_from 0 s ≡ Some w)
@@ -110,7 +110,7 @@ word_digits s w e = go (eqb (length s) 16) refl e
   where
     go : (t : Bool) → eqb (length s) 16 ≡ t → cond t (hex_from 0 s) None ≡ Some w → (length s ≡ 16) × (hex_from 0 s ≡ Some w)
     go true t e = (eqb-true (length s) 16 t, e)
-    go false t e = let z : ◌≡◌ {A = ℕ} 0 1 = cc in absurd (omega arith)
+    go false t e = cc
 
 module _ (s : List ℕ) (w : ℕ) (reads : word_item s ≡ Some w) where
   -- they are the digits of that word
@@ -142,4 +142,4 @@ flag_read s w e = go (same_list s (bytes "0")) (same_list s (bytes "1")) refl re
         → ((w ≡ 0) × (s ≡ flag_text false)) ⊎ ((w ≡ 1) × (s ≡ flag_text true))
     go true u p q e = inl (cc, same_equal s _ p)
     go false true p q e = inr (cc, same_equal s _ q)
-    go false false p q e = let z : ◌≡◌ {A = ℕ} 0 1 = cc in absurd (omega arith)
+    go false false p q e = cc

@@ -1,5 +1,5 @@
 -- A number in decimal. Definitions only.
-use Rattle.std.specs.Prelude.{ℕ, zero, suc, ◌+◌, ◌/◌, ◌%◌, ◌≡◌, List, [], ◌∷◌, ◌++◌, cond, length, take, drop, replicate, ltb}
+use Rattle.std.specs.Prelude.{ℕ, zero, suc, ◌+◌, ◌-◌, ◌/◌, ◌%◌, ◌≡◌, List, [], ◌∷◌, ◌++◌, cond, length, drop, replicate, ltb}
 use Rattle.text.specs.declared.decimal.Decimal.TheInside.{Inside}
 
 -- n in decimal with no zero in front, for an n of at most k digits
@@ -17,9 +17,13 @@ decimal_text n = decimal_of 20 n
 abbrev pub counting : Inside → List ℕ
 counting d = drop d.start d.digits
 
--- before them come zeros, and they are twenty in all
+-- such digits behind so many zeros that they are twenty in all
+abbrev pub padded : List ℕ → Inside
+padded s = record { digits = replicate (20 - length s) 48 ++ s; start = 20 - length s }
+
+-- there is nothing else in a value
 pub record Padded (d : Inside) : Type 0 where
-  pub zeros : take d.start d.digits ≡ replicate d.start 48
+  pub again : padded (counting d) ≡ d
   pub all : length d.digits ≡ 20
 
 -- the digits of n, behind so many zeros that they are twenty in all

@@ -1,34 +1,31 @@
 // A word as text: sixteen upper-case hexadecimal digits.
-ghost use Rattle.std.specs.Prelude.{◌≡◌, ◌<◌};
+ghost use Rattle.std.specs.Prelude.{◌≡◌, ◌<◌, ltb};
+ghost use Rattle.std.specs.Bool.{then_some};
 ghost use Rattle.text.specs.Word.{digit_value, word_item, glyph, word_text};
 
-// The value of an upper-case hexadecimal digit, and 16 for any other byte.
+// The value of an upper-case hexadecimal digit.
 #[tactic(auto, unfolding(crate::specs::Word::digit_value))]
-fn digit_value(b: u8) -> u64
-    ensures { result ≡ digit_value b }
+fn digit_value(b: u8) -> Option<u64>
+    ensures { result ≡ then_some (ltb (digit_value b) 16) (digit_value b) }
 {
     match b {
-        b'0'..=b'9' => u64::from(b - b'0'),
-        b'A'..=b'F' => u64::from(b - b'A' + 10),
-        _ => 16,
+        b'0'..=b'9' => Some(u64::from(b - b'0')),
+        b'A'..=b'F' => Some(u64::from(b - b'A' + 10)),
+        _ => None,
     }
 }
 
 // The word that sixteen digits write.
-#[tactic(auto, using(crate::proofs::Digits::hex_digit, crate::proofs::Digits::hex_other, crate::proofs::Digits::hex_end), unfolding(crate::specs::Word::word_item))]
+#[tactic(auto, using(crate::proofs::Digits::hex_other, crate::proofs::Digits::hex_end), unfolding(crate::specs::Word::word_item))]
 pub fn read_word(s: &[u8]) -> Option<u64>
     ensures { result ≡ word_item s.now }
 {
     if s.len() != 16 {
         return None;
     }
-    let mut word: u64 = 0;
+    let mut word = 0;
     for b in s {
-        let d = digit_value(*b);
-        if 16 <= d {
-            return None;
-        }
-        word = word * 16 + d;
+        word = word * 16 + digit_value(*b)?;
     }
     Some(word)
 }

@@ -12,9 +12,9 @@ use lib.Seq.{drop-cons, take_all}
 use Rattle.session.specs.declared.put.Out.{Out}
 use Rattle.session.specs.declared.state.Session.{Session}
 use Rattle.session.specs.Put.{Put}
-use Rattle.session.specs.Stream.{line_in, Goes, Stream, line_ends, held_more, held_with, byte_held, byte_in, streamed, at_hand, Feeds}
+use Rattle.session.specs.Stream.{line_in, Goes, Stream, line_ends, held_more, held_with, byte_held, byte_in, streamed, Feeds}
 use Rattle.session.proofs.Going.{goes}
-use Rattle.session.proofs.Putting.{put_more, put_none, put_taken, put_as}
+use Rattle.session.proofs.Putting.{put_more, put_taken, put_as}
 use Rattle.session.proofs.Short.{line_short}
 
 -- the run that the loop has at hand: the first `at` bytes of out are written
@@ -25,10 +25,6 @@ seen s region carry held out = record { session = s; words = region; carry = car
 pub record Running (st : Stream) (chunk old : List ℕ) (s : Session) (region carry : List ℕ) (held : ℕ) (out : Out) (i : ℕ) : Type 0 where
   pub leads : streamed (seen s region carry held out) (drop i chunk) ≡ streamed st chunk
   pub put : Put old 0 (take out.at out.bytes.now) out.at out.bytes.now
-
-pub running_start : (s : Session) (region carry : List ℕ) (held : ℕ) (chunk : List ℕ) (out : Out) → out.at ≡ 0
-    → Running (at_hand s region carry held) chunk out.bytes.now s region carry held out 0
-running_start s region carry held chunk out e = record { leads = rw e refl; put = rw e (put_none out.bytes.now 0) }
 
 -- no more than there is can be taken
 pub take_least : (n : ℕ) (l : List ℕ) → take (min n (length l)) l ≡ take n l

@@ -7,7 +7,7 @@ use borrow.Author.Tests.{eq-eqb, ne_eqb}
 use lib.ListN.{length, take}
 use Rattle.session.specs.declared.put.Out.{Out}
 use Rattle.session.specs.declared.state.Session.{Session}
-use Rattle.session.specs.Put.{Put, Puts, Counts}
+use Rattle.session.specs.Put.{Puts, Counts}
 use Rattle.session.specs.Stream.{Stream, line_in, Goes, line_ends, last_line, closing, ended, at_hand, Finishes}
 use Rattle.session.proofs.Going.{goes}
 use Rattle.session.proofs.Feeding.{take_least}

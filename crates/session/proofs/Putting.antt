@@ -32,9 +32,6 @@ put_none old at = record { moved = omega arith; holds = refl }
 pub puts_more : {old mid new : Out} {a b : List ℕ} → Puts old a mid → Puts mid b new → Puts old (a ++ b) new
 puts_more p q = record { same_reference = q.same_reference ∙ p.same_reference; size = q.size ∙ p.size; put = put_more p.put q.put }
 
-pub puts_as : {old new : Out} {a b : List ℕ} → a ≡ b → Puts old a new → Puts old b new
-puts_as {old} {new} e p = subst (λ (l : List ℕ). Puts old l new) e p
-
 pub puts_none : (out : Out) → Puts out [] out
 puts_none out = record { same_reference = refl; size = refl; put = put_none out.bytes.now out.at }
 

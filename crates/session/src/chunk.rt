@@ -35,6 +35,9 @@ fn hold_byte(carry: &mut [u8; 256], held: usize, b: u8) -> usize
     held
 }
 
+// Session, held bytes and region are arguments of their own in `feed` and `finish`, as docs/CONTRACTS.md has the two calls and
+// `feed_once_carry`, `finish_once_region` and the three beside them speak of each.
+
 // Takes as much of a chunk as `out` has room to answer: 32 bytes for each byte. A line that the chunk cuts is held in `carry`.
 pub fn feed(
     session: Session,

@@ -14,13 +14,13 @@ ghost use Rattle.dynamics.specs.Machine.{length_answer, start_refusal, decode_re
 ghost use Rattle.window.specs.Geometry.{geometry_of};
 ghost use Rattle.moving_average.specs.MovingAverage.{state_of, machine, opened, zeros, reads};
 
-use average::{advance, mu_now, output};
+use average::{advance, mu_now};
 use dynamics::{
     Answer, Inputs, Length, PREV_T_UNSET, clear, form_refusal, length_answer, real_answer, silent,
     tick_answer, time_refusal, warning_answer,
 };
-use order::is_ordered;
 use reals::{is_finite, real_of};
+use ring::Points;
 pub use state::{Decoded, State, number_of};
 use state::{decodes, ring_of, state_of};
 use window::{RingGeometry, geometry};
@@ -85,8 +85,11 @@ pub fn sound(settings: MovingAverage, region: &[u64]) -> bool
     let Decoded::State(s) = taken_apart(settings, shape, region) else {
         return false;
     };
-    let previous = s.previous;
-    is_ordered(region, ring_of(s, shape.capacity), previous)
+    let points = Points {
+        region,
+        ring: ring_of(s, shape.capacity),
+    };
+    points.is_ordered(s.previous)
 }
 
 // A region taken apart for a tick at this time: each test once, in the table's order.
@@ -117,7 +120,11 @@ pub fn emit(settings: MovingAverage, time: f64, inputs: Inputs, region: &[u64]) 
         return silent(number_of(met));
     };
     let mu = mu_now(s, time, real_of(inputs.first));
-    real_answer(output(shape, region, s, time, mu))
+    let points = Points {
+        region,
+        ring: ring_of(s, shape.capacity),
+    };
+    real_answer(points.output(shape, s, time, mu))
 }
 
 // Stores this tick.
@@ -143,6 +150,10 @@ pub fn tick(settings: MovingAverage, time: f64, inputs: Inputs, region: &mut [u6
         return silent(number_of(met));
     };
     let mu = mu_now(s, time, real_of(inputs.first));
-    let y = output(shape, region, s, time, mu);
+    let points = Points {
+        region,
+        ring: ring_of(s, shape.capacity),
+    };
+    let y = points.output(shape, s, time, mu);
     tick_answer(y, false, advance(shape, region, s, time, mu))
 }

@@ -8,8 +8,8 @@ use Rattle.moving_average.proofs.tick.Goals as goal
 pub returns-in_default : goal.returns-in_default
 returns-in_default c = tick_else decoded (machine c.args.settings) state_of _ _ _ c.admit-met.ensures c.in_default.is c.number_of.ensures c.silent.ensures
 
-pub output-y-requires : goal.output-y-requires
-output-y-requires c = ring_stands c.args.settings _ c.args.inputs c.args.region.now c.geometry-shape.ensures c.admit-met.ensures c.in-State.is
+pub invariant_of-points : goal.invariant_of-points
+invariant_of-points c = record { holds = rw c.ring_of.ensures (ring_stands c.args.settings _ c.args.inputs c.args.region.now c.geometry-shape.ensures c.admit-met.ensures c.in-State.is) }
 
 pub advance-requires : goal.advance-requires
 advance-requires c = ring_stands c.args.settings _ c.args.inputs c.args.region.now c.geometry-shape.ensures c.admit-met.ensures c.in-State.is

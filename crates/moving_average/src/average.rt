@@ -31,18 +31,16 @@ fn t_start(s: State, t: f64) -> f64
     }
 }
 
-// The mean over the window up to t, where the integral is mu.
-#[tactic(auto, unfolding(crate::specs::MovingAverage::output_of))]
-pub(crate) fn output(geometry: RingGeometry, region: &[u64], s: State, t: f64, mu: f64) -> f64
-    requires { Holds region.now (ring_of s geometry.capacity) }
-    ensures { result ≡ output_of geometry region.now s t mu }
-{
-    let points = Points {
-        region,
-        ring: ring_of(s, geometry.capacity),
-    };
-    let mu_del = points.mu_at(t - geometry.delta, Point { time: t, mu });
-    (mu - mu_del) / denominator(t_start(s, t), geometry.delta, t)
+impl<'a> Points<'a> {
+    // The mean over the window up to t, where the integral is mu.
+    #[tactic(auto, unfolding(crate::specs::MovingAverage::output_of))]
+    pub(crate) fn output(&self, geometry: RingGeometry, s: State, t: f64, mu: f64) -> f64
+        requires { self.now.ring ≡ ring_of s geometry.capacity }
+        ensures { result ≡ output_of geometry self.now.region.now s t mu }
+    {
+        let mu_del = self.mu_at(t - geometry.delta, Point { time: t, mu });
+        (mu - mu_del) / denominator(t_start(s, t), geometry.delta, t)
+    }
 }
 
 // The start time's word: the first tick sets it.

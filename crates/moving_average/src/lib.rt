@@ -12,13 +12,13 @@ ghost use Rattle.std.specs.Prelude.{◌≡◌};
 ghost use Rattle.window.specs.Geometry.{geometry_of};
 ghost use Rattle.moving_average.specs.MovingAverage.{state_of, decodable, machine, told, zeros};
 
-use average::{advance, mu_now, output};
+use average::{advance, mu_now};
 use dynamics::{
     Answer, ControlBlock, Inputs, PREV_T_UNSET, Previous, clear, real_answer, tick_answer,
     warning_answer,
 };
-use order::is_ordered;
 use reals::{is_finite, real_of};
+use ring::Points;
 pub use state::State;
 use state::{decodes, ring_of, state_of};
 use window::{RingGeometry, geometry};
@@ -93,13 +93,21 @@ impl ControlBlock for Windowed {
 
     // The times of its ring are in order.
     fn is_orderly(self, s: State, region: &[u64]) -> bool {
-        is_ordered(region, ring_of(s, self.shape.capacity), s.previous)
+        let points = Points {
+            region,
+            ring: ring_of(s, self.shape.capacity),
+        };
+        points.is_ordered(s.previous)
     }
 
     // The mean as of this tick.
     fn emitted(self, s: State, time: f64, inputs: Inputs, region: &[u64]) -> Answer {
         let mu = mu_now(s, time, real_of(inputs.first));
-        real_answer(output(self.shape, region, s, time, mu))
+        let points = Points {
+            region,
+            ring: ring_of(s, self.shape.capacity),
+        };
+        real_answer(points.output(self.shape, s, time, mu))
     }
 
     fn updated(self, s: State, time: f64, inputs: Inputs, region: &mut [u64]) -> Answer {
@@ -110,7 +118,11 @@ impl ControlBlock for Windowed {
     // The integral is computed once.
     fn ticked(self, s: State, time: f64, inputs: Inputs, region: &mut [u64]) -> Answer {
         let mu = mu_now(s, time, real_of(inputs.first));
-        let y = output(self.shape, region, s, time, mu);
+        let points = Points {
+            region,
+            ring: ring_of(s, self.shape.capacity),
+        };
+        let y = points.output(self.shape, s, time, mu);
         tick_answer(y, false, advance(self.shape, region, s, time, mu))
     }
 }

@@ -4,9 +4,9 @@ ghost use Rattle.std.specs.Float.Ieee.Scale.{finite};
 ghost use Rattle.dynamics.specs.Previous.{sound_previous};
 ghost use Rattle.window.specs.Order.{is_ordered};
 ghost use Rattle.window.specs.Walk.{climbed};
-ghost use Rattle.moving_average.specs.Ring.{Holds, time_at, slot_time};
+ghost use Rattle.moving_average.specs.Ring.{time_at, slot_time};
 
-use crate::ring::{Points, Ring};
+use crate::ring::Points;
 use dynamics::Previous;
 use reals::is_finite;
 
@@ -62,16 +62,15 @@ impl<'a> Points<'a> {
         }
         self.climb_all(first) <= previous
     }
-}
 
-// Whether the ring's times are in order; before the first tick it has none.
-pub(crate) fn is_ordered(region: &[u64], ring: Ring, previous: Previous) -> bool
-    requires { Holds region.now ring × (sound_previous previous ≡ true) }
-    ensures { result ≡ is_ordered (time_at region.now ring) ring.count previous }
-{
-    let points = Points { region, ring };
-    match previous {
-        None => ring.count == 0,
-        Some(then) => points.is_ordered_to(then),
+    // Whether the times are in order; before the first tick there are none.
+    pub(crate) fn is_ordered(&self, previous: Previous) -> bool
+        requires { sound_previous previous ≡ true }
+        ensures { result ≡ is_ordered (time_at self.now.region.now self.now.ring) self.now.ring.count previous }
+    {
+        match previous {
+            None => self.ring.count == 0,
+            Some(then) => self.is_ordered_to(then),
+        }
     }
 }

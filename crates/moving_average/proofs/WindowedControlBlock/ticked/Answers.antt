@@ -2,8 +2,8 @@
 use Rattle.moving_average.proofs.Steps.{ring_stands, ticked_by}
 use Rattle.moving_average.proofs.WindowedControlBlock.ticked.Goals as goal
 
-pub output-y-requires : goal.output-y-requires
-output-y-requires c = ring_stands c.args.self.settings c.args.time c.args.inputs c.args.region.now c.args.self.shaped c.requires.opened c.requires.state
+pub invariant_of-points : goal.invariant_of-points
+invariant_of-points c = record { holds = rw c.ring_of.ensures (ring_stands c.args.self.settings c.args.time c.args.inputs c.args.region.now c.args.self.shaped c.requires.opened c.requires.state) }
 
 pub advance-requires : goal.advance-requires
 advance-requires c = ring_stands c.args.self.settings c.args.time c.args.inputs c.args.region.now c.args.self.shaped c.requires.opened c.requires.state

@@ -2,8 +2,7 @@
 use Rattle.std.specs.Prelude.{ℕ, List, [], ◌∷◌}
 use Prim.Native.String.{String}
 use Rattle.dynamics.specs.Machine.{length_answer, emit_answer, update_answer, tick_answer, updated_words}
-use Rattle.dynamics.specs.declared.call.Answer.{Answer}
-use Rattle.dynamics.specs.declared.call.Length.{Length}
+use Rattle.dynamics.specs.Answer.{Length, Answer}
 use Rattle.blocks.specs.Block.{machine_of, inputs_of}
 use Rattle.blocks.specs.declared.block.Block.{Block}
 use Rattle.blocks.specs.declared.block.Tick.{Tick}

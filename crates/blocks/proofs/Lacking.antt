@@ -7,7 +7,7 @@ use lib.Ieee.{Float}
 use Rattle.reals.specs.Words.{0·0}
 use Rattle.dynamics.specs.Machine.{Machine, tick_refusal, emit_answer}
 use Rattle.dynamics.specs.Stepped.{stepped_machine}
-use Rattle.dynamics.specs.declared.call.Answer.{Answer}
+use Rattle.dynamics.specs.Answer.{Answer}
 use Rattle.dynamics.specs.declared.call.Inputs.{Inputs}
 use Rattle.dynamics.proofs.Accepted.{accept_ap, accept_same, accept_const}
 use Rattle.moving_average.specs.MovingAverage.{machine_for}

@@ -2,7 +2,7 @@
 use Rattle.std.specs.Prelude.{ℕ, true, false, List, get_or}
 use Rattle.reals.specs.Words.{word_of, word_of_flag}
 use Rattle.dynamics.specs.Machine.{Machine, emit_answer, update_answer, updated_words}
-use Rattle.dynamics.specs.declared.call.Answer.{Answer}
+use Rattle.dynamics.specs.Answer.{Answer}
 use Rattle.dynamics.specs.declared.call.Inputs.{Inputs}
 use Rattle.pid.specs.Pid as controllers
 use Rattle.moving_average.specs.MovingAverage as average

@@ -11,10 +11,9 @@ use lib.Ieee.Scale.{finite}
 use Rattle.reals.specs.Words.{0·0}
 use Rattle.reals.proofs.Once.{OnceLeft}
 use Rattle.dynamics.specs.Previous.{runs_back}
-use Rattle.dynamics.specs.Answer.{Outputs, silent, emitted, updated, answered, refusal_of, form_refusal, accept, length_of}
+use Rattle.dynamics.specs.Answer.{Answer, Outputs, silent, emitted, updated, answered, refusal_of, form_refusal, accept, length_of}
 use Rattle.dynamics.specs.Region.{stored, Gives}
 use Rattle.dynamics.specs.Machine.{Machine, sized, length_answer, start_refusal, decode_refusal, tick_refusal, started_words, is_sound, emit_answer, update_answer, updated_words, tick_answer, Tick, emits, updates, answer_to, words_after, run}
-use Rattle.dynamics.specs.declared.call.Answer.{Answer}
 use Rattle.dynamics.specs.declared.call.Inputs.{Inputs}
 use Rattle.dynamics.proofs.Accepted.{accepted, accept_ap, accept_const, all_passed}
 use Rattle.dynamics.proofs.Accepted as by

@@ -2,18 +2,18 @@
 use mathlib.Core.Path.{◌≡◌, refl, sym, ap, ◌∙◌}
 use Prim.Native.Nat.{ℕ}
 use Rattle.std.specs.Prelude.{Result, Ok, Err}
-use Rattle.dynamics.specs.Answer.{number_of, Brings}
+use Rattle.dynamics.specs.Answer.{Answer, Length, number_of, said, answer_of, length_read, Brings}
+use Rattle.dynamics.specs.Region.{Gives}
+use Rattle.dynamics.specs.declared.call.Reply.{Reply}
 use Rattle.dynamics.specs.declared.refusal.Refusal.{Refusal}
-use Rattle.dynamics.proofs.Calls.{one_result}
+use mathlib.Core.List.{List}
 use Rattle.dynamics.proofs.Opening.{some_number, same_refusal, one_brought}
 use Rattle.reals.proofs.Once.{Once, OnceLeft, equation_once, left_once}
-use Rattle.dynamics.proofs.call.silent.Reads as silent
 use Rattle.dynamics.proofs.call.tick_answer.Reads as tick_answer
 use Rattle.dynamics.proofs.call.both_answer.Reads as both_answer
 use Rattle.dynamics.proofs.call.real_answer.Reads as real_answer
 use Rattle.dynamics.proofs.call.boolean_answer.Reads as boolean_answer
 use Rattle.dynamics.proofs.call.warning_answer.Reads as warning_answer
-use Rattle.dynamics.proofs.call.length_answer.Reads as length_answer
 use Rattle.dynamics.proofs.leaf.forward_euler_accumulate.Reads as forward_euler_accumulate
 use Rattle.dynamics.proofs.leaf.first_order_filter_implicit.Reads as first_order_filter_implicit
 use Rattle.dynamics.proofs.leaf.positive_duration.Reads as positive_duration
@@ -44,26 +44,62 @@ use Rattle.dynamics.proofs.refusal.number_of.Reads as number
 use Rattle.dynamics.proofs.refusal.test_form.Reads as test_form
 use Rattle.dynamics.proofs.refusal.test_time.Reads as test_time
 
-pub silent_once : Once silent.Post
-silent_once = equation_once
+-- ---- what a result says admits one result
+same_said : (a b : Reply) → said a ≡ said b → a ≡ b
+same_said a b e = λ i. record { real = (e i).real; boolean = (e i).boolean; warning = (e i).warning }
+
+same_answer : (q r : Result Reply Refusal) → answer_of q ≡ answer_of r → q ≡ r
+same_answer (Ok a) (Ok b) e = ap Ok (same_said a b e)
+same_answer (Ok a) (Err r) e = absurd (some_number r (sym (ap (λ (x : Answer). x.refusal) e)))
+same_answer (Err r) (Ok b) e = absurd (some_number r (ap (λ (x : Answer). x.refusal) e))
+same_answer (Err q) (Err r) e = ap Err (same_refusal q r (ap (λ (x : Answer). x.refusal) e))
+
+same_length : (q r : Result ℕ Refusal) → length_read q ≡ length_read r → q ≡ r
+same_length (Ok m) (Ok n) e = ap Ok (ap (λ (x : Length). x.length) e)
+same_length (Ok m) (Err r) e = absurd (some_number r (sym (ap (λ (x : Length). x.refusal) e)))
+same_length (Err r) (Ok n) e = absurd (some_number r (ap (λ (x : Length). x.refusal) e))
+same_length (Err q) (Err r) e = ap Err (same_refusal q r (ap (λ (x : Length). x.refusal) e))
+
+units : (q r : Result (Unit {0}) Refusal) → number_of q ≡ number_of r → q ≡ r
+units (Ok x) (Ok y) e = refl
+units (Ok x) (Err r) e = absurd (some_number r (sym e))
+units (Err r) (Ok x) e = absurd (some_number r e)
+units (Err q) (Err r) e = ap Err (same_refusal q r e)
+
+said_once : {K : Type 0} {D : K → Type 0} {E : K → Type 0} {f : (κs : K) → D κs → Answer} → Once {K = K} {D = D} {R = Reply} {E = E} (λ κs a r e. said r ≡ f κs a)
+said_once = record { alike = λ κs a x y s t p q. same_said x y (p ∙ sym q) }
+
+pub answer_once : {K : Type 0} {D : K → Type 0} {E : K → Type 0} {f : (κs : K) → D κs → Answer}
+    → Once {K = K} {D = D} {R = Result Reply Refusal} {E = E} (λ κs a r e. answer_of r ≡ f κs a)
+answer_once = record { alike = λ κs a x y s t p q. same_answer x y (p ∙ sym q) }
+
+pub length_once : {K : Type 0} {D : K → Type 0} {E : K → Type 0} {f : (κs : K) → D κs → Length}
+    → Once {K = K} {D = D} {R = Result ℕ Refusal} {E = E} (λ κs a r e. length_read r ≡ f κs a)
+length_once = record { alike = λ κs a x y s t p q. same_length x y (p ∙ sym q) }
+
+-- and so does a call that writes
+pub writes_once : {K : Type 0} {D : K → Type 0} {E : K → Type 0} {f : (κs : K) → D κs → Answer} {g : (κs : K) → D κs → List ℕ} {left : (κs : K) → E κs → List ℕ}
+    → OnceLeft {K = K} {D = D} {R = Result Reply Refusal} {E = E} (λ κs a r e. Gives (f κs a) (g κs a) (answer_of r) (left κs e)) left
+writes_once = record { alike = λ κs a x y s t p q. (same_answer x y (p.answers ∙ sym q.answers), p.leaves ∙ sym q.leaves) }
+
+pub starts_once : {K : Type 0} {D : K → Type 0} {E : K → Type 0} {f : (κs : K) → D κs → ℕ} {g : (κs : K) → D κs → List ℕ} {left : (κs : K) → E κs → List ℕ}
+    → OnceLeft {K = K} {D = D} {R = Result (Unit {0}) Refusal} {E = E} (λ κs a r e. Gives (f κs a) (g κs a) (number_of r) (left κs e)) left
+starts_once = record { alike = λ κs a x y s t p q. (units x y (p.answers ∙ sym q.answers), p.leaves ∙ sym q.leaves) }
 
 pub tick_answer_once : Once tick_answer.Post
-tick_answer_once = equation_once
+tick_answer_once = said_once
 
 pub both_answer_once : Once both_answer.Post
-both_answer_once = equation_once
+both_answer_once = said_once
 
 pub real_answer_once : Once real_answer.Post
-real_answer_once = equation_once
+real_answer_once = said_once
 
 pub boolean_answer_once : Once boolean_answer.Post
-boolean_answer_once = equation_once
+boolean_answer_once = said_once
 
 pub warning_answer_once : Once warning_answer.Post
-warning_answer_once = equation_once
-
-pub length_answer_once : Once length_answer.Post
-length_answer_once = equation_once
+warning_answer_once = said_once
 
 pub forward_euler_accumulate_once : Once forward_euler_accumulate.Post
 forward_euler_accumulate_once = equation_once
@@ -117,12 +153,6 @@ pub clear_once : OnceLeft clear.Post (λ κs s. s.0.now)
 clear_once = left_once
 
 -- ---- what is a number alone, and a number with what it brings
-units : (q r : Result (Unit {0}) Refusal) → number_of q ≡ number_of r → q ≡ r
-units (Ok x) (Ok y) e = refl
-units (Ok x) (Err r) e = absurd (some_number r (sym e))
-units (Err r) (Ok x) e = absurd (some_number r e)
-units (Err q) (Err r) e = ap Err (same_refusal q r e)
-
 pub numbered_once : {K : Type 0} {D : K → Type 0} {E : K → Type 0} {f : (κs : K) → D κs → ℕ}
     → Once {K = K} {D = D} {R = Result (Unit {0}) Refusal} {E = E} (λ κs a r e. number_of r ≡ f κs a)
 numbered_once = record { alike = λ κs a x y s t p q. units x y (p ∙ sym q) }
@@ -149,7 +179,7 @@ number_of_once T laws copy clone clone_dict = equation_once
 
 pub block_length_once : (B : _) (S : _) (laws : _) (state_laws : _) (copy : _) (state_copy : _) (its : _) (its_dict : _) (clone : _) (clone_dict : _) (state_clone : _) (state_clone_dict : _)
     → Once (block_state_length.Post B S laws state_laws copy state_copy its its_dict clone clone_dict state_clone state_clone_dict)
-block_length_once B S laws state_laws copy state_copy its its_dict clone clone_dict state_clone state_clone_dict = equation_once
+block_length_once B S laws state_laws copy state_copy its its_dict clone clone_dict state_clone state_clone_dict = length_once
 
 pub block_form_once : (B : _) (S : _) (laws : _) (state_laws : _) (copy : _) (state_copy : _) (its : _) (its_dict : _) (clone : _) (clone_dict : _) (state_clone : _) (state_clone_dict : _)
     → Once (block_test_form.Post B S laws state_laws copy state_copy its its_dict clone clone_dict state_clone state_clone_dict)
@@ -157,7 +187,7 @@ block_form_once B S laws state_laws copy state_copy its its_dict clone clone_dic
 
 pub block_start_once : (B : _) (S : _) (laws : _) (state_laws : _) (copy : _) (state_copy : _) (its : _) (its_dict : _) (clone : _) (clone_dict : _) (state_clone : _) (state_clone_dict : _)
     → OnceLeft (block_start.Post B S laws state_laws copy state_copy its its_dict clone clone_dict state_clone state_clone_dict) (λ κs s. s.1.0.now)
-block_start_once B S laws state_laws copy state_copy its its_dict clone clone_dict state_clone state_clone_dict = one_result
+block_start_once B S laws state_laws copy state_copy its its_dict clone clone_dict state_clone state_clone_dict = starts_once
 
 pub block_decode_once : (B : _) (S : _) (laws : _) (state_laws : _) (copy : _) (state_copy : _) (its : _) (its_dict : _) (clone : _) (clone_dict : _) (state_clone : _) (state_clone_dict : _)
     → Once (block_decode.Post B S laws state_laws copy state_copy its its_dict clone clone_dict state_clone state_clone_dict)
@@ -173,12 +203,12 @@ block_admit_once B S laws state_laws copy state_copy its its_dict clone clone_di
 
 pub block_emit_once : (B : _) (S : _) (laws : _) (state_laws : _) (copy : _) (state_copy : _) (its : _) (its_dict : _) (clone : _) (clone_dict : _) (state_clone : _) (state_clone_dict : _)
     → Once (block_emit.Post B S laws state_laws copy state_copy its its_dict clone clone_dict state_clone state_clone_dict)
-block_emit_once B S laws state_laws copy state_copy its its_dict clone clone_dict state_clone state_clone_dict = equation_once
+block_emit_once B S laws state_laws copy state_copy its its_dict clone clone_dict state_clone state_clone_dict = answer_once
 
 pub block_update_once : (B : _) (S : _) (laws : _) (state_laws : _) (copy : _) (state_copy : _) (its : _) (its_dict : _) (clone : _) (clone_dict : _) (state_clone : _) (state_clone_dict : _)
     → OnceLeft (block_update.Post B S laws state_laws copy state_copy its its_dict clone clone_dict state_clone state_clone_dict) (λ κs s. s.1.1.1.0.now)
-block_update_once B S laws state_laws copy state_copy its its_dict clone clone_dict state_clone state_clone_dict = one_result
+block_update_once B S laws state_laws copy state_copy its its_dict clone clone_dict state_clone state_clone_dict = writes_once
 
 pub block_tick_once : (B : _) (S : _) (laws : _) (state_laws : _) (copy : _) (state_copy : _) (its : _) (its_dict : _) (clone : _) (clone_dict : _) (state_clone : _) (state_clone_dict : _)
     → OnceLeft (block_tick.Post B S laws state_laws copy state_copy its its_dict clone clone_dict state_clone state_clone_dict) (λ κs s. s.1.1.1.0.now)
-block_tick_once B S laws state_laws copy state_copy its its_dict clone clone_dict state_clone state_clone_dict = one_result
+block_tick_once B S laws state_laws copy state_copy its its_dict clone clone_dict state_clone state_clone_dict = writes_once

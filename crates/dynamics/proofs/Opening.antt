@@ -9,10 +9,10 @@ use borrow.Author.Tests.{eq-eqb, ne_eqb}
 use lib.Dec.{eqb}
 use Rattle.std.specs.Prelude.{Result, Ok, Err, IsErrAnd}
 use Rattle.dynamics.specs.Previous.{Previous}
-use Rattle.dynamics.specs.Answer.{number, number_of, Brings, silent, emitted, updated, answered, refusal_of, skipped, time_refusal, accept}
+use Rattle.dynamics.specs.Answer.{number, number_of, Brings, emitted, updated, answered, refusal_of, skipped, time_refusal, accept, said, answer_of}
 use Rattle.dynamics.specs.Region.{Gives}
 use Rattle.dynamics.specs.Machine.{Machine, sized, Reading, read_as, Told, start_refusal, decode_refusal, decode_answer, is_sound, tick_refusal, emit_answer, update_answer, updated_words, tick_answer}
-use Rattle.dynamics.specs.declared.call.Answer.{Answer}
+use Rattle.dynamics.specs.declared.call.Reply.{Reply}
 use Rattle.dynamics.specs.declared.call.Inputs.{Inputs}
 use Rattle.dynamics.specs.declared.refusal.Refusal.{Refusal}
 use Rattle.dynamics.specs.declared.refusal.Refusal.TheVariants as variant
@@ -145,31 +145,26 @@ module _ {S : Type 0} (M : Machine) (state_of : List ℕ → S) (w : List ℕ) w
 
   -- ---- a region that was opened for a tick
   module _ (time : Float) (i : Inputs) where
-    -- in the `else`, the refusal
-    module _ {d : Result S Refusal} {r : Refusal} (is : d ≡ Err r) (b : Brings (tick_refusal M time w) (state_of w) d) {k : ℕ} (e : k ≡ number_of d)
-        {x : Answer} (silence : x ≡ silent k) where
-      known : k ≡ tick_refusal M time w
-      known = e ∙ b.number
+    -- refused: the refusal is handed on
+    module _ {r : Refusal} (b : Brings (tick_refusal M time w) (state_of w) (Err r)) (x : Result Reply Refusal) (on : IsErrAnd x (λ q. q ≡ r)) where
+      pub emit_else : answer_of x ≡ emit_answer M time i w
+      emit_else = rw (handed_on x on) (emit_refused M time i w b.number (some_number r))
 
-      not_0 : k ≡ 0 → ⊥
-      not_0 z = some_number r (sym (ap number_of is) ∙ sym e ∙ z)
+      pub update_else : Gives (update_answer M time i w) (updated_words M time i w) (answer_of x) w
+      update_else = rw (handed_on x on) (update_refused M time i w b.number (some_number r))
 
-      pub emit_else : x ≡ emit_answer M time i w
-      emit_else = silence ∙ emit_refused M time i w known not_0
+      pub tick_else : Gives (tick_answer M time i w) (updated_words M time i w) (answer_of x) w
+      tick_else = rw (handed_on x on) (tick_refused M time i w b.number (some_number r))
 
-      pub update_else : Gives (update_answer M time i w) (updated_words M time i w) x w
-      update_else = rw silence (update_refused M time i w known not_0)
-
-      pub tick_else : Gives (tick_answer M time i w) (updated_words M time i w) x w
-      tick_else = rw silence (tick_refused M time i w known not_0)
-
-    -- after it, the tick is accepted
+    -- accepted
     module _ {s : S} (b : Brings (tick_refusal M time w) (state_of w) (Ok s)) where
-      pub emit_then : {x : Answer} → x ≡ emitted (M.output w time i) → x ≡ emit_answer M time i w
+      pub emit_then : {x : Reply} → said x ≡ emitted (M.output w time i) → said x ≡ emit_answer M time i w
       emit_then = emit_accepted M time i w b.number
 
-      pub update_then : {x : Answer} {w' : List ℕ} → Gives (updated (M.warns w time i)) (M.after w time i) x w' → Gives (update_answer M time i w) (updated_words M time i w) x w'
+      pub update_then : {x : Reply} {w' : List ℕ} → Gives (updated (M.warns w time i)) (M.after w time i) (said x) w'
+          → Gives (update_answer M time i w) (updated_words M time i w) (said x) w'
       update_then q = update_accepted M time i w b.number q.answers q.leaves
 
-      pub tick_then : {x : Answer} {w' : List ℕ} → Gives (answered (M.output w time i) (M.warns w time i)) (M.after w time i) x w' → Gives (tick_answer M time i w) (updated_words M time i w) x w'
+      pub tick_then : {x : Reply} {w' : List ℕ} → Gives (answered (M.output w time i) (M.warns w time i)) (M.after w time i) (said x) w'
+          → Gives (tick_answer M time i w) (updated_words M time i w) (said x) w'
       tick_then q = tick_accepted M time i w b.number q.answers q.leaves

@@ -9,12 +9,11 @@ use lib.ListN.{length}
 use Rattle.std.specs.Prelude.{None}
 use Rattle.reals.specs.Words.{word_of}
 use Rattle.dynamics.specs.Previous.{previous_of, sound_previous}
-use Rattle.dynamics.specs.Answer.{silent, emitted, updated, answered}
+use Rattle.dynamics.specs.Answer.{Answer, silent, emitted, updated, answered}
 use Rattle.dynamics.specs.Region.{stored, Gives}
 use Rattle.dynamics.specs.Machine.{Machine, start_refusal, decode_refusal, tick_refusal, Tick}
 use Rattle.dynamics.specs.Sound.{StaysSound}
 use Rattle.dynamics.specs.Stepped.{Stepped, stepped_machine}
-use Rattle.dynamics.specs.declared.call.Answer.{Answer}
 use Rattle.dynamics.specs.declared.call.Inputs.{Inputs}
 use Rattle.dynamics.proofs.Calls.{tick_time, decode_passed, stored_fresh, stored_after}
 use Rattle.dynamics.proofs.Times.{previous_back}

@@ -3,8 +3,7 @@ use Rattle.std.specs.Prelude.{ℕ, ◌≡◌, zero, suc, Bool, true, false, not,
 use Rattle.std.specs.Float.Ieee.Scale.{finite}
 use Rattle.reals.specs.Words.{0·0}
 use Rattle.dynamics.specs.Previous.{runs_back, Previous}
-use Rattle.dynamics.specs.declared.call.Answer.{Answer}
-use Rattle.dynamics.specs.declared.call.Length.{Length}
+use Rattle.dynamics.specs.declared.call.Reply.{Reply}
 use Rattle.dynamics.specs.declared.refusal.Refusal.{Refusal}
 use Rattle.dynamics.specs.declared.refusal.Refusal.TheVariants as variant
 
@@ -23,6 +22,13 @@ abbrev pub boolean_output : Bool → Outputs
 boolean_output b = both_outputs 0·0 b
 
 -- ---- answers
+-- what a call says: its refusal number, 0 where it is accepted, its outputs and its warning
+pub record Answer : Type 0 where
+  pub refusal : ℕ
+  pub real : Float
+  pub boolean : Bool
+  pub warning : Bool
+
 -- a refusal returns its number, 0.0, false and no warning; with 0 it is a call that is accepted and has nothing to say
 abbrev pub silent : ℕ → Answer
 silent n = record { refusal = n; real = 0·0; boolean = false; warning = false }
@@ -72,6 +78,14 @@ abbrev pub number_of : {X : Type 0} → Result X Refusal → ℕ
 number_of (Ok x) = 0
 number_of (Err r) = number r
 
+-- what a call's result says: what was handed out, or with a refusal its number and zeros
+abbrev pub said : Reply → Answer
+said a = record { refusal = 0; real = a.real; boolean = a.boolean; warning = a.warning }
+
+abbrev pub answer_of : Result Reply Refusal → Answer
+answer_of (Ok a) = said a
+answer_of (Err r) = silent (number r)
+
 -- a call that has this number, and brings this where it is accepted
 pub record Brings {X : Type 0} (n : ℕ) (x : X) (r : Result X Refusal) : Type 0 where
   pub number : number_of r ≡ n
@@ -96,6 +110,14 @@ unfoldable pub accept : {X : Type 0} → ℕ → X → X → X
 accept zero x y = x
 accept (suc n) x y = y
 
--- a state length tests 2 alone
+-- a state length tests 2 alone; with a refusal it is 0
+pub record Length : Type 0 where
+  pub refusal : ℕ
+  pub length : ℕ
+
 unfoldable pub length_of : (settings : Bool) (size : ℕ) → Length
 length_of settings size = record { refusal = form_refusal settings skipped; length = accept (form_refusal settings skipped) size 0 }
+
+abbrev pub length_read : Result ℕ Refusal → Length
+length_read (Ok n) = record { refusal = 0; length = n }
+length_read (Err r) = record { refusal = number r; length = 0 }

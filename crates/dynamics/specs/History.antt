@@ -1,9 +1,8 @@
 -- A block told from its history alone: the accepted ticks since the latest start or wiping tick. No region is read. Definitions only.
 use Rattle.dynamics.specs.Previous.{Previous}
 use Rattle.std.specs.Prelude.{ℕ, ◌≡◌, Bool, true, cond, List, [], ◌∷◌, None, Some}
-use Rattle.dynamics.specs.Answer.{Outputs, silent, emitted, time_refusal, accept}
+use Rattle.dynamics.specs.Answer.{Answer, Outputs, silent, emitted, time_refusal, accept}
 use Rattle.dynamics.specs.Machine.{Machine, is_sound, decode_answer, tick_refusal, Tick, Call, starts, emits, updates, ticks, emit_answer, Seen, words_after, run, left_after}
-use Rattle.dynamics.specs.declared.call.Answer.{Answer}
 
 -- it begins with a start or with a wiping tick, and an accepted tick follows
 pub data History : Type 0 where

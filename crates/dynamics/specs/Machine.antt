@@ -4,10 +4,8 @@ use Rattle.std.specs.Float.{binary64}
 use Rattle.std.specs.Float.Ieee.{fits}
 use Rattle.std.specs.Float.Ieee.Scale.{finite}
 use Rattle.dynamics.specs.Previous.{runs_back, Previous}
-use Rattle.dynamics.specs.Answer.{Outputs, number, silent, emitted, updated, answered, refusal_of, skipped, form_refusal, accept, length_of}
-use Rattle.dynamics.specs.declared.call.Answer.{Answer}
+use Rattle.dynamics.specs.Answer.{Length, Answer, Outputs, number, silent, emitted, updated, answered, refusal_of, skipped, form_refusal, accept, length_of}
 use Rattle.dynamics.specs.declared.call.Inputs.{Inputs}
-use Rattle.dynamics.specs.declared.call.Length.{Length}
 use Rattle.dynamics.specs.declared.refusal.Refusal.{Refusal}
 
 -- A block with its settings.

@@ -1,13 +1,13 @@
 // A block and its calls. What is a block's own stands in its `impl`; the tests of a call, in the table's order, stand here for all.
 ghost use Rattle.std.specs.Prelude.{◌≡◌, ℕ, Bool, List, true};
-ghost use Rattle.dynamics.specs.Answer.{number_of, answered, emitted, updated, Brings};
+ghost use Rattle.dynamics.specs.Answer.{number_of, answered, emitted, updated, said, answer_of, length_read, Brings};
 ghost use Rattle.dynamics.specs.Previous.{Previous};
 ghost use Rattle.dynamics.specs.Region.{Gives};
 ghost use Rattle.dynamics.specs.Machine.{Machine, Told, read_as, length_answer, start_refusal, decode_refusal, decode_answer, tick_refusal, started_words, is_sound, emit_answer, update_answer, updated_words, tick_answer};
 
-use crate::call::{Answer, Inputs, Length, length_answer, silent};
+use crate::call::{Reply, Inputs};
 use crate::previous::Previous;
-use crate::refusal::{Refusal, number_of, test_form, test_time};
+use crate::refusal::{Refusal, test_form, test_time};
 
 // A block with its settings.
 pub trait ControlBlock: Copy {
@@ -56,32 +56,35 @@ pub trait ControlBlock: Copy {
         ensures { result ≡ (machine self).sound region.now };
 
     // What an emit of an accepted tick answers.
-    fn emitted(self, s: Self::State, time: f64, inputs: Inputs, region: &[u64]) -> Answer
+    fn emitted(self, s: Self::State, time: f64, inputs: Inputs, region: &[u64]) -> Reply
         requires opened { tick_refusal (machine self) time region.now ≡ 0 }
         requires state { s ≡ state_of self region.now }
-        ensures { result ≡ emitted ((machine self).output region.now time inputs) };
+        ensures { said result ≡ emitted ((machine self).output region.now time inputs) };
 
     // Stores an accepted tick.
-    fn updated(self, s: Self::State, time: f64, inputs: Inputs, region: &mut [u64]) -> Answer
+    fn updated(self, s: Self::State, time: f64, inputs: Inputs, region: &mut [u64]) -> Reply
         requires opened { tick_refusal (machine self) time region.old ≡ 0 }
         requires state { s ≡ state_of self region.old }
-        ensures { Gives (updated ((machine self).warns region.old time inputs)) ((machine self).after region.old time inputs) result region.new };
+        ensures { Gives (updated ((machine self).warns region.old time inputs)) ((machine self).after region.old time inputs) (said result) region.new };
 
     // Both at once.
-    fn ticked(self, s: Self::State, time: f64, inputs: Inputs, region: &mut [u64]) -> Answer
+    fn ticked(self, s: Self::State, time: f64, inputs: Inputs, region: &mut [u64]) -> Reply
         requires opened { tick_refusal (machine self) time region.old ≡ 0 }
         requires state { s ≡ state_of self region.old }
-        ensures { Gives (answered ((machine self).output region.old time inputs) ((machine self).warns region.old time inputs)) ((machine self).after region.old time inputs) result region.new };
+        ensures { Gives (answered ((machine self).output region.old time inputs) ((machine self).warns region.old time inputs)) ((machine self).after region.old time inputs) (said result) region.new };
 
     // What a state tells is what the words tell.
     ghost told: { (b : Self) → Told (machine b) (state_of b) (decodes b) (previous b) };
 
     // How many words its region has, if its settings are accepted.
-    #[tactic(auto, unfolding(crate::specs::Machine::length_answer))]
-    final fn state_length(self) -> Length
-        ensures { result ≡ length_answer (machine self) }
+    #[tactic(auto, unfolding(crate::specs::Machine::length_answer, crate::specs::Answer::length_of, crate::specs::Answer::form_refusal, crate::specs::Answer::refusal_of, crate::specs::Answer::accept))]
+    final fn state_length(self) -> Result<usize, Refusal>
+        ensures { length_read result ≡ length_answer (machine self) }
     {
-        length_answer(self.is_accepted(), self.size())
+        if !self.is_accepted() {
+            return Err(Refusal::Settings);
+        }
+        Ok(self.size())
     }
 
     // Tests 2 and 3.
@@ -92,15 +95,13 @@ pub trait ControlBlock: Copy {
         test_form(self.is_accepted(), region.len() == self.size())
     }
 
-    // Writes the words of a fresh block. The refusal number; 0 is accepted.
-    final fn start(self, region: &mut [u64]) -> u64
-        ensures { Gives (start_refusal (machine self) region.old) (started_words (machine self) region.old) result region.new }
+    // Writes the words of a fresh block.
+    final fn start(self, region: &mut [u64]) -> Result<(), Refusal>
+        ensures { Gives (start_refusal (machine self) region.old) (started_words (machine self) region.old) (number_of result) region.new }
     {
-        if let Err(refusal) = self.test_form(region) {
-            return u64::from(refusal);
-        }
+        self.test_form(&region[..])?;
         self.refresh(region);
-        0
+        Ok(())
     }
 
     // A region taken apart: its state, or why it has none.
@@ -137,35 +138,26 @@ pub trait ControlBlock: Copy {
     }
 
     // The outputs as of this tick; nothing is stored.
-    final fn emit(self, time: f64, inputs: Inputs, region: &[u64]) -> Answer
-        ensures { result ≡ emit_answer (machine self) time inputs region.now }
+    final fn emit(self, time: f64, inputs: Inputs, region: &[u64]) -> Result<Reply, Refusal>
+        ensures { answer_of result ≡ emit_answer (machine self) time inputs region.now }
     {
-        let met = self.admit(time, region);
-        let Ok(s) = met else {
-            return silent(number_of(met));
-        };
-        self.emitted(s, time, inputs, region)
+        let s = self.admit(time, region)?;
+        Ok(self.emitted(s, time, inputs, region))
     }
 
     // Stores this tick.
-    final fn update(self, time: f64, inputs: Inputs, region: &mut [u64]) -> Answer
-        ensures { Gives (update_answer (machine self) time inputs region.old) (updated_words (machine self) time inputs region.old) result region.new }
+    final fn update(self, time: f64, inputs: Inputs, region: &mut [u64]) -> Result<Reply, Refusal>
+        ensures { Gives (update_answer (machine self) time inputs region.old) (updated_words (machine self) time inputs region.old) (answer_of result) region.new }
     {
-        let met = self.admit(time, region);
-        let Ok(s) = met else {
-            return silent(number_of(met));
-        };
-        self.updated(s, time, inputs, region)
+        let s = self.admit(time, &region[..])?;
+        Ok(self.updated(s, time, inputs, region))
     }
 
     // A whole tick, an emit and then an update, with every test made once.
-    final fn tick(self, time: f64, inputs: Inputs, region: &mut [u64]) -> Answer
-        ensures { Gives (tick_answer (machine self) time inputs region.old) (updated_words (machine self) time inputs region.old) result region.new }
+    final fn tick(self, time: f64, inputs: Inputs, region: &mut [u64]) -> Result<Reply, Refusal>
+        ensures { Gives (tick_answer (machine self) time inputs region.old) (updated_words (machine self) time inputs region.old) (answer_of result) region.new }
     {
-        let met = self.admit(time, region);
-        let Ok(s) = met else {
-            return silent(number_of(met));
-        };
-        self.ticked(s, time, inputs, region)
+        let s = self.admit(time, &region[..])?;
+        Ok(self.ticked(s, time, inputs, region))
     }
 }

@@ -10,8 +10,7 @@ pub mod region;
 pub mod stepped;
 
 pub use call::{
-    Answer, Inputs, Length, boolean_answer, both_answer, length_answer, real_answer, silent,
-    tick_answer, warning_answer,
+    Reply, Inputs, both_answer, boolean_answer, real_answer, tick_answer, warning_answer,
 };
 pub use control::ControlBlock;
 pub use leaf::{

@@ -1,18 +1,18 @@
 // A block whose words are a state record, and whose update is one step of it: what every block is but the moving average.
 ghost use Rattle.std.specs.Prelude.{◌≡◌, length};
-ghost use Rattle.dynamics.specs.Answer.{emitted};
+ghost use Rattle.dynamics.specs.Answer.{emitted, said};
 ghost use Rattle.dynamics.specs.Previous.{sound_previous};
 ghost use Rattle.dynamics.specs.Region.{stored};
 ghost use Rattle.dynamics.specs.Stepped.{Stepped, stepped_machine, stepped_told};
 
-use crate::call::{Answer, Inputs, silent};
+use crate::call::{Reply, Inputs, warning_answer};
 use crate::control::ControlBlock;
 use crate::previous::{Previous, previous_sound};
 
 // One tick of a state: what an emit answers, and the state after it.
 #[derive(Clone, Copy)]
 pub struct Step<S> {
-    pub answer: Answer,
+    pub answer: Reply,
     pub after: S,
 }
 
@@ -51,7 +51,7 @@ pub trait SteppedBlock: Copy {
 
     // One accepted tick.
     fn step(self, s: Self::State, time: f64, inputs: Inputs) -> Step<Self::State>
-        ensures answer { result.answer ≡ emitted ((block self).output s time inputs) }
+        ensures answer { said result.answer ≡ emitted ((block self).output s time inputs) }
         ensures after { result.after ≡ (block self).advance s time inputs };
 
     // A state has as many words as the region.
@@ -103,17 +103,17 @@ impl<B: SteppedBlock> ControlBlock for B {
         true
     }
 
-    fn emitted(self, s: B::State, time: f64, inputs: Inputs, _region: &[u64]) -> Answer {
+    fn emitted(self, s: B::State, time: f64, inputs: Inputs, _region: &[u64]) -> Reply {
         self.step(s, time, inputs).answer
     }
 
-    fn updated(self, s: B::State, time: f64, inputs: Inputs, region: &mut [u64]) -> Answer {
+    fn updated(self, s: B::State, time: f64, inputs: Inputs, region: &mut [u64]) -> Reply {
         let step = self.step(s, time, inputs);
         self.write(region, step.after);
-        silent(0)
+        warning_answer(false)
     }
 
-    fn ticked(self, s: B::State, time: f64, inputs: Inputs, region: &mut [u64]) -> Answer {
+    fn ticked(self, s: B::State, time: f64, inputs: Inputs, region: &mut [u64]) -> Reply {
         let step = self.step(s, time, inputs);
         self.write(region, step.after);
         step.answer

@@ -3,13 +3,12 @@ use mathlib.Core.Path.{◌≡◌, sym, ap, ◌∙◌}
 use Rattle.std.specs.Prelude.{Result, Ok, Err}
 use mathlib.Core.List.{List}
 use Prim.Native.Nat.{ℕ}
-use Rattle.dynamics.specs.Answer.{number, Brings, accept}
+use Rattle.dynamics.specs.Answer.{Answer, number, Brings, accept}
 use Rattle.dynamics.specs.Region.{Gives}
 use Rattle.dynamics.specs.declared.refusal.Refusal.{Refusal}
 use Rattle.dynamics.proofs.Accepted.{accepted, refused}
 use Rattle.dynamics.proofs.Opening.{some_number}
 use Rattle.blocks.specs.declared.decoded.State.{State}
-use Rattle.dynamics.specs.declared.call.Answer.{Answer}
 use Rattle.exports.specs.Boundary.{answer_crossed, state_words, decoded_words, no_state}
 use Rattle.exports.specs.declared.boundary.AnswerWords.{AnswerWords}
 

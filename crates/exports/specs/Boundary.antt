@@ -2,11 +2,9 @@
 use Rattle.std.specs.Prelude.{ℕ, ◌≡◌, Result, Ok, Err}
 use Rattle.reals.specs.Words.{real_of, word_of, word_of_flag}
 use Rattle.dynamics.specs.Previous.{word_of_previous}
-use Rattle.dynamics.specs.Answer.{number}
-use Rattle.dynamics.specs.declared.call.Answer.{Answer}
+use Rattle.dynamics.specs.Answer.{Length, Answer, number}
 use Rattle.dynamics.specs.declared.refusal.Refusal.{Refusal}
 use Rattle.dynamics.specs.declared.call.Inputs.{Inputs}
-use Rattle.dynamics.specs.declared.call.Length.{Length}
 use Rattle.controller.specs.declared.recurrence.State as controller_state
 use Rattle.moving_average.specs.declared.state.State as average_state
 use Rattle.timer_accumulating.specs.declared.state.State as accumulating_state

@@ -10,10 +10,9 @@ use Rattle.reals.specs.Words.{real_of, word_of}
 use Rattle.reals.specs.Arithmetic.{◌⊖◌}
 use Rattle.dynamics.specs.Previous.{is_first}
 use Rattle.dynamics.specs.Leaves.{rising}
-use Rattle.dynamics.specs.Answer.{Outputs, emitted, updated, answered, real_output}
+use Rattle.dynamics.specs.Answer.{Answer, Outputs, emitted, updated, answered, real_output}
 use Rattle.dynamics.specs.Region.{Gives}
 use Rattle.dynamics.specs.Machine.{tick_refusal}
-use Rattle.dynamics.specs.declared.call.Answer.{Answer}
 use Rattle.dynamics.specs.declared.call.Inputs.{Inputs}
 use Rattle.window.specs.Geometry.{geometry_of}
 use Rattle.window.specs.declared.ring.RingGeometry.{RingGeometry}

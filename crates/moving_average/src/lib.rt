@@ -14,7 +14,7 @@ ghost use Rattle.moving_average.specs.MovingAverage.{state_of, decodable, machin
 
 use average::{advance, mu_now};
 use dynamics::{
-    Answer, ControlBlock, Inputs, PREV_T_UNSET, Previous, clear, real_answer, tick_answer,
+    ControlBlock, Inputs, PREV_T_UNSET, Previous, Reply, clear, real_answer, tick_answer,
     warning_answer,
 };
 use reals::{is_finite, real_of};
@@ -101,7 +101,7 @@ impl ControlBlock for Windowed {
     }
 
     // The mean as of this tick.
-    fn emitted(self, s: State, time: f64, inputs: Inputs, region: &[u64]) -> Answer {
+    fn emitted(self, s: State, time: f64, inputs: Inputs, region: &[u64]) -> Reply {
         let mu = mu_now(s, time, real_of(inputs.first));
         let points = Points {
             region,
@@ -110,13 +110,13 @@ impl ControlBlock for Windowed {
         real_answer(points.output(self.shape, s, time, mu))
     }
 
-    fn updated(self, s: State, time: f64, inputs: Inputs, region: &mut [u64]) -> Answer {
+    fn updated(self, s: State, time: f64, inputs: Inputs, region: &mut [u64]) -> Reply {
         let mu = mu_now(s, time, real_of(inputs.first));
         warning_answer(advance(self.shape, region, s, time, mu))
     }
 
     // The integral is computed once.
-    fn ticked(self, s: State, time: f64, inputs: Inputs, region: &mut [u64]) -> Answer {
+    fn ticked(self, s: State, time: f64, inputs: Inputs, region: &mut [u64]) -> Reply {
         let mu = mu_now(s, time, real_of(inputs.first));
         let points = Points {
             region,

@@ -7,10 +7,9 @@ use lib.Dec.{T, eqb}
 use lib.ListN.{length}
 use lib.Ieee.{Float, nan, is_nan, lt, le}
 use lib.Ieee.Scale.{finite}
-use Rattle.dynamics.specs.Answer.{refusal_of, skipped}
+use Rattle.dynamics.specs.Answer.{Answer, refusal_of, skipped}
 use Rattle.dynamics.specs.Machine.{tick_refusal, emit_answer, updated_words}
 use Rattle.dynamics.specs.Stepped.{stepped_machine}
-use Rattle.dynamics.specs.declared.call.Answer.{Answer}
 use Rattle.dynamics.specs.declared.call.Inputs.{Inputs}
 use Rattle.dynamics.proofs.Accepted.{accepted}
 use Rattle.controller.specs.Settings.{settings_accepted}

@@ -1,7 +1,7 @@
 -- The answers that a line stores. Definitions only.
 use Rattle.std.specs.Prelude.{ℕ, ◌+◌, List, Bool, ◌&&◌, get_or, eqb}
 use Rattle.reals.specs.Words.{word_of, word_of_flag}
-use Rattle.dynamics.specs.declared.call.Answer.{Answer}
+use Rattle.dynamics.specs.Answer.{Answer}
 use Rattle.replay.specs.declared.answer.Stored.{Stored}
 
 -- the five words from `at` on

@@ -9,7 +9,7 @@ use lib.ListN.{length, drop, length-drop}
 use lib.Seq.{sets, length-sets}
 use Rattle.dynamics.specs.Machine.{Machine, updated_words, tick_answer}
 use Rattle.dynamics.specs.Region.{Gives}
-use Rattle.dynamics.specs.declared.call.Answer.{Answer}
+use Rattle.dynamics.specs.Answer.{Answer}
 use Rattle.runs.specs.Run.{words_per_tick, words_per_answer, ticks_in, asked_by, asked_at, asked, answer_in_words, answer_each, ran_words, ran_answers}
 use Rattle.runs.specs.declared.words.Asked.{Asked}
 use Rattle.runs.proofs.Lists.{drop_four, sets_behind, sets_all}

@@ -1,9 +1,8 @@
 -- A run: many whole ticks of one block on one region, words in and words out. Definitions only.
 use Rattle.std.specs.Prelude.{ℕ, ◌+◌, ◌*◌, ◌/◌, ◌%◌, ◌≡◌, Bool, ◌&&◌, cond, List, [], ◌∷◌, ◌++◌, eqb, length, get_or}
 use Rattle.reals.specs.Words.{real_of, word_of, word_of_flag}
-use Rattle.dynamics.specs.Answer.{accept}
+use Rattle.dynamics.specs.Answer.{Answer, accept}
 use Rattle.dynamics.specs.Machine.{Machine, start_refusal, updated_words, tick_answer}
-use Rattle.dynamics.specs.declared.call.Answer.{Answer}
 use Rattle.runs.specs.declared.words.Asked.{Asked}
 
 -- ---- words and ticks

@@ -9,10 +9,8 @@ use lib.Dec.{ltb, leb, eqb}
 use lib.ListN.{length, take, drop, length-append}
 use lib.Seq.{take-append_seam, drop-append_seam, length-take-le}
 use Rattle.std.specs.Prelude.{Option, Some, None}
-use Rattle.dynamics.specs.Answer.{accept}
+use Rattle.dynamics.specs.Answer.{Length, Answer, accept}
 use Rattle.dynamics.specs.Machine.{length_answer, started_words, emit_answer, update_answer, tick_answer, updated_words}
-use Rattle.dynamics.specs.declared.call.Answer.{Answer}
-use Rattle.dynamics.specs.declared.call.Length.{Length}
 use Rattle.dynamics.proofs.Calls.{Together, tick_together, length_0, length_2, started_fresh}
 use Rattle.blocks.specs.Block.{machine_of, inputs_of, fresh, ticked}
 use Rattle.blocks.specs.declared.block.Block.{Block}

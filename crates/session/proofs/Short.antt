@@ -8,7 +8,7 @@ use lib.ListN.{length, take, length-append}
 use Rattle.std.specs.Prelude.{Option, Some, None}
 use Rattle.reals.specs.Words.{word_of}
 use Rattle.dynamics.specs.Machine.{length_answer}
-use Rattle.dynamics.specs.declared.call.Answer.{Answer}
+use Rattle.dynamics.specs.Answer.{Answer}
 use Rattle.blocks.specs.Block.{machine_of}
 use Rattle.blocks.specs.declared.block.Block.{Block}
 use Rattle.blocks.specs.declared.block.Block.TheVariants.{Pid, PidWithReset, MovingAverage, TimerAccumulating, TrueDelay, TrueFalseHold, TrueHoldWithReset, LogicalVariablePulse}

@@ -2,7 +2,7 @@
 use Rattle.std.specs.Prelude.{ℕ, List, [], ◌∷◌, ◌++◌, cond, eqb}
 use Prim.Native.Char.{code}
 use Rattle.reals.specs.Words.{word_of}
-use Rattle.dynamics.specs.declared.call.Answer.{Answer}
+use Rattle.dynamics.specs.Answer.{Answer}
 use Rattle.blocks.specs.declared.block.Block.{Block}
 use Rattle.text.specs.Bytes.{bytes}
 use Rattle.text.specs.Word.{word_text}

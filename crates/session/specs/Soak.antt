@@ -3,9 +3,8 @@ use Rattle.std.specs.Prelude.{ℕ, ◌+◌, min, Option, Some, None, List, [], �
 use Rattle.std.specs.Float.Ieee.{lt}
 use Rattle.std.specs.Float.Ieee.Scale.{finite}
 use Rattle.reals.specs.Words.{nearest}
-use Rattle.dynamics.specs.Answer.{accept}
+use Rattle.dynamics.specs.Answer.{Answer, accept}
 use Rattle.dynamics.specs.Machine.{length_answer}
-use Rattle.dynamics.specs.declared.call.Answer.{Answer}
 use Rattle.blocks.specs.Block.{machine_of, fresh, ticked}
 use Rattle.blocks.specs.declared.block.Block.{Block}
 use Rattle.blocks.specs.declared.block.Tick.{Tick}

@@ -1,7 +1,7 @@
 -- How the code goes through its input: what each byte leads to. Definitions only.
 use Rattle.std.specs.Prelude.{ℕ, suc, ◌≤◌, ◌≡◌, Option, Some, None, List, [], ◌∷◌, ◌++◌, cond, ltb, leb, eqb, length, take, drop, set}
 use Rattle.dynamics.specs.Machine.{length_answer, started_words, tick_answer, updated_words}
-use Rattle.dynamics.specs.declared.call.Answer.{Answer}
+use Rattle.dynamics.specs.Answer.{Answer}
 use Rattle.blocks.specs.Block.{machine_of, inputs_of}
 use Rattle.blocks.specs.declared.block.Block.{Block}
 use Rattle.blocks.specs.declared.block.Tick.{Tick}

@@ -4,9 +4,8 @@ use mathlib.Core.Path.{◌≡◌, refl, sym, ◌∙◌, ap}
 use mathlib.Core.List.{List, [], ◌∷◌, ◌++◌, map}
 use lib.ListN.{take, drop}
 use Rattle.reals.specs.Words.{word_of, word_of_flag}
-use Rattle.dynamics.specs.Answer.{accept}
+use Rattle.dynamics.specs.Answer.{Answer, accept}
 use Rattle.dynamics.specs.Machine.{Machine, updated_words, Call, ticks, answer_to, words_after, run, left_after}
-use Rattle.dynamics.specs.declared.call.Answer.{Answer}
 use Rattle.dynamics.proofs.Accepted.{accepted}
 use Rattle.dynamics.proofs.Calls.{tick_together}
 use Rattle.blocks.specs.Block.{machine_of, inputs_of, Hands, real, boolean, both, outputs_of, handed}

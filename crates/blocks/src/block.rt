@@ -1,9 +1,10 @@
 // A block with its settings, what a tick brings, and its outputs as words.
 ghost use Rattle.std.specs.Prelude.{◌≡◌};
+ghost use Rattle.dynamics.specs.Answer.{said, answer_of};
 ghost use Rattle.blocks.specs.Block.{real, boolean, both, handed, inputs_of, answer_words};
 
 use controller::ControllerConfig;
-use dynamics::{Answer, Inputs};
+use dynamics::{Inputs, Refusal, Reply};
 use reals::{word_of, word_of_flag};
 
 // One of eight, each with its own numbers.
@@ -60,45 +61,49 @@ pub struct OutputWords {
     pub second: u64,
 }
 
-fn real_words(answer: Answer) -> OutputWords
-    ensures { result ≡ handed real answer }
+fn real_words(reply: Reply) -> OutputWords
+    ensures { result ≡ handed real (said reply) }
 {
     OutputWords {
-        first: word_of(answer.real),
+        first: word_of(reply.real),
         second: 0,
     }
 }
 
-fn boolean_words(answer: Answer) -> OutputWords
-    ensures { result ≡ handed boolean answer }
+fn boolean_words(reply: Reply) -> OutputWords
+    ensures { result ≡ handed boolean (said reply) }
 {
     OutputWords {
-        first: word_of_flag(answer.boolean),
+        first: word_of_flag(reply.boolean),
         second: 0,
     }
 }
 
-fn both_words(answer: Answer) -> OutputWords
-    ensures { result ≡ handed both answer }
+fn both_words(reply: Reply) -> OutputWords
+    ensures { result ≡ handed both (said reply) }
 {
     OutputWords {
-        first: word_of(answer.real),
-        second: word_of_flag(answer.boolean),
+        first: word_of(reply.real),
+        second: word_of_flag(reply.boolean),
     }
 }
 
-// What a block's answer hands out, as words.
-pub fn answer_words(block: Block, answer: Answer) -> OutputWords
-    ensures { result ≡ answer_words block answer }
+// What a block's emit hands out, as words; zeros for a refusal.
+pub fn answer_words(block: Block, met: Result<Reply, Refusal>) -> OutputWords
+    ensures { result ≡ answer_words block (answer_of met) }
 {
+    let Ok(reply) = met else {
+        return OutputWords {
+            first: 0,
+            second: 0,
+        };
+    };
     match block {
-        Block::Pid(_) => real_words(answer),
-        Block::PidWithReset(_) => real_words(answer),
-        Block::MovingAverage { .. } => real_words(answer),
-        Block::TimerAccumulating { .. } => both_words(answer),
-        Block::TrueDelay { .. } => boolean_words(answer),
-        Block::TrueFalseHold { .. } => boolean_words(answer),
-        Block::TrueHoldWithReset { .. } => boolean_words(answer),
-        Block::LogicalVariablePulse { .. } => boolean_words(answer),
+        Block::Pid(_) | Block::PidWithReset(_) | Block::MovingAverage { .. } => real_words(reply),
+        Block::TimerAccumulating { .. } => both_words(reply),
+        Block::TrueDelay { .. }
+        | Block::TrueFalseHold { .. }
+        | Block::TrueHoldWithReset { .. }
+        | Block::LogicalVariablePulse { .. } => boolean_words(reply),
     }
 }

@@ -7,7 +7,7 @@ mod decoded;
 mod named;
 
 ghost use Rattle.std.specs.Prelude.{◌≡◌};
-ghost use Rattle.dynamics.specs.Answer.{Brings};
+ghost use Rattle.dynamics.specs.Answer.{number_of, answer_of, length_read, Brings};
 ghost use Rattle.dynamics.specs.Region.{Gives};
 ghost use Rattle.dynamics.specs.Machine.{read_as, length_answer, start_refusal, decode_refusal, decode_answer, started_words, is_sound, emit_answer, update_answer, updated_words, tick_answer};
 ghost use Rattle.blocks.specs.Block.{machine_of, inputs_of};
@@ -16,7 +16,7 @@ ghost use Rattle.blocks.specs.Decoded.{state_of, zeros};
 use block::inputs_of;
 pub use block::{Block, OutputWords, Tick, answer_words};
 pub use decoded::State;
-use dynamics::{Answer, ControlBlock, Length, Refusal};
+use dynamics::{ControlBlock, Refusal, Reply};
 pub use logical_variable_pulse::LogicalVariablePulse;
 pub use moving_average::MovingAverage;
 pub use named::{CONTROLLER_SETTINGS, block_of};
@@ -26,18 +26,18 @@ pub use true_delay::TrueDelay;
 pub use true_false_hold::TrueFalseHold;
 pub use true_hold_with_reset::TrueHoldWithReset;
 
-// How many words its region has.
+// How many words its region has, if its settings are accepted.
 #[tactic(auto, unfolding(crate::specs::Block::machine_of))]
-pub fn state_length(block: Block) -> Length
-    ensures { result ≡ length_answer (machine_of block) }
+pub fn state_length(block: Block) -> Result<usize, Refusal>
+    ensures { length_read result ≡ length_answer (machine_of block) }
 {
     each_block!(block, own => own.state_length())
 }
 
-// Writes the words of a fresh block. The refusal number; 0 is accepted.
+// Writes the words of a fresh block.
 #[tactic(auto, unfolding(crate::specs::Block::machine_of))]
-pub fn start(block: Block, region: &mut [u64]) -> u64
-    ensures { Gives (start_refusal (machine_of block) region.old) (started_words (machine_of block) region.old) result region.new }
+pub fn start(block: Block, region: &mut [u64]) -> Result<(), Refusal>
+    ensures { Gives (start_refusal (machine_of block) region.old) (started_words (machine_of block) region.old) (number_of result) region.new }
 {
     each_block!(block, own => own.start(region))
 }
@@ -60,24 +60,24 @@ pub fn decode(block: Block, region: &[u64]) -> Result<State, Refusal>
 
 // The outputs as of this tick; nothing is stored.
 #[tactic(auto, unfolding(crate::specs::Block::machine_of))]
-pub fn emit(block: Block, tick: Tick, region: &[u64]) -> Answer
-    ensures { result ≡ emit_answer (machine_of block) tick.time (inputs_of tick) region.now }
+pub fn emit(block: Block, tick: Tick, region: &[u64]) -> Result<Reply, Refusal>
+    ensures { answer_of result ≡ emit_answer (machine_of block) tick.time (inputs_of tick) region.now }
 {
     each_block!(block, own => own.emit(tick.time, inputs_of(tick), region))
 }
 
 // Stores this tick.
 #[tactic(auto, unfolding(crate::specs::Block::machine_of))]
-pub fn update(block: Block, tick: Tick, region: &mut [u64]) -> Answer
-    ensures { Gives (update_answer (machine_of block) tick.time (inputs_of tick) region.old) (updated_words (machine_of block) tick.time (inputs_of tick) region.old) result region.new }
+pub fn update(block: Block, tick: Tick, region: &mut [u64]) -> Result<Reply, Refusal>
+    ensures { Gives (update_answer (machine_of block) tick.time (inputs_of tick) region.old) (updated_words (machine_of block) tick.time (inputs_of tick) region.old) (answer_of result) region.new }
 {
     each_block!(block, own => own.update(tick.time, inputs_of(tick), region))
 }
 
 // A whole tick, an emit and then an update, with every test made once.
 #[tactic(auto, unfolding(crate::specs::Block::machine_of))]
-pub fn tick(block: Block, tick: Tick, region: &mut [u64]) -> Answer
-    ensures { Gives (tick_answer (machine_of block) tick.time (inputs_of tick) region.old) (updated_words (machine_of block) tick.time (inputs_of tick) region.old) result region.new }
+pub fn tick(block: Block, tick: Tick, region: &mut [u64]) -> Result<Reply, Refusal>
+    ensures { Gives (tick_answer (machine_of block) tick.time (inputs_of tick) region.old) (updated_words (machine_of block) tick.time (inputs_of tick) region.old) (answer_of result) region.new }
 {
     each_block!(block, own => own.tick(tick.time, inputs_of(tick), region))
 }

@@ -1,26 +1,17 @@
--- `block::answer_words` hands out the outputs that the chosen block has. Assumes nothing.
+-- `block::answer_words` hands out the outputs that the chosen block has, and zeros for a refusal. Assumes nothing.
+use mathlib.Core.Path.{◌≡◌, refl}
+use Prim.Native.Nat.{ℕ}
+use lib.Ieee.{of_bits, to_bits}
+use Rattle.dynamics.specs.Answer.{silent}
+use Rattle.blocks.specs.Block.{Hands, real, boolean, both, handed}
+use Rattle.blocks.specs.declared.block.OutputWords.{OutputWords}
 use Rattle.blocks.proofs.block.answer_words.Goals as goal
 
-pub returns-in-Pid : goal.returns-in-Pid
-returns-in-Pid c = rw c.in-Pid.is c.real_words.ensures
+nothing : (h : Hands) (n : ℕ) → ◌≡◌ {A = OutputWords} (record { first = 0; second = 0 }) (handed h (silent n))
+unfolding of_bits to_bits
+nothing real n = refl
+nothing boolean n = refl
+nothing both n = refl
 
-pub returns-in-PidWithReset : goal.returns-in-PidWithReset
-returns-in-PidWithReset c = rw c.in-PidWithReset.is c.real_words-in-PidWithReset.ensures
-
-pub returns-in-MovingAverage : goal.returns-in-MovingAverage
-returns-in-MovingAverage c = rw c.in-MovingAverage.is c.real_words-in-MovingAverage.ensures
-
-pub returns-in-TimerAccumulating : goal.returns-in-TimerAccumulating
-returns-in-TimerAccumulating c = rw c.in-TimerAccumulating.is c.both_words.ensures
-
-pub returns-in-TrueDelay : goal.returns-in-TrueDelay
-returns-in-TrueDelay c = rw c.in-TrueDelay.is c.boolean_words.ensures
-
-pub returns-in-TrueFalseHold : goal.returns-in-TrueFalseHold
-returns-in-TrueFalseHold c = rw c.in-TrueFalseHold.is c.boolean_words-in-TrueFalseHold.ensures
-
-pub returns-in-TrueHoldWithReset : goal.returns-in-TrueHoldWithReset
-returns-in-TrueHoldWithReset c = rw c.in-TrueHoldWithReset.is c.boolean_words-in-TrueHoldWithReset.ensures
-
-pub returns-in-LogicalVariablePulse : goal.returns-in-LogicalVariablePulse
-returns-in-LogicalVariablePulse c = rw c.in-LogicalVariablePulse.is c.boolean_words-in-LogicalVariablePulse.ensures
+pub returns-in_default : goal.returns-in_default
+returns-in_default c = rw c.in_default.is (nothing _ _)

@@ -26,33 +26,33 @@ pub trait SteppedBlock: Copy {
     ghost zeros: { Self.State };
 
     // Whether its settings are accepted.
-    fn is_accepted(self) -> bool
-        ensures { result ≡ (block self).accepts };
+    fn is_accepted(&self) -> bool
+        ensures { result ≡ (block self.now).accepts };
 
     // How many words a state has.
-    fn size(self) -> usize
-        ensures { result ≡ (block self).size };
+    fn size(&self) -> usize
+        ensures { result ≡ (block self.now).size };
 
     // The state of a fresh block.
-    fn initial(self) -> Self::State
-        ensures { result ≡ (block self).initial };
+    fn initial(&self) -> Self::State
+        ensures { result ≡ (block self.now).initial };
 
     // What a region's words mean.
-    fn read(self, region: &[u64]) -> Self::State
-        ensures { result ≡ (block self).state_of region.now };
+    fn read(&self, region: &[u64]) -> Self::State
+        ensures { result ≡ (block self.now).state_of region.now };
 
     // Stores a state in a region of its length.
-    fn write(self, region: &mut [u64], s: Self::State)
-        ensures { region.new ≡ stored region.old ((block self).words_of s) };
+    fn write(&self, region: &mut [u64], s: Self::State)
+        ensures { region.new ≡ stored region.old ((block self.now).words_of s) };
 
     // The previous time in a state.
-    fn previous(self, s: Self::State) -> Previous
-        ensures { result ≡ (block self).previous s };
+    fn previous(&self, s: Self::State) -> Previous
+        ensures { result ≡ (block self.now).previous s };
 
     // One accepted tick.
-    fn step(self, s: Self::State, time: f64, inputs: Inputs) -> Step<Self::State>
-        ensures answer { said result.answer ≡ emitted ((block self).output s time inputs) }
-        ensures after { result.after ≡ (block self).advance s time inputs };
+    fn step(&self, s: Self::State, time: f64, inputs: Inputs) -> Step<Self::State>
+        ensures answer { said result.answer ≡ emitted ((block self.now).output s time inputs) }
+        ensures after { result.after ≡ (block self.now).advance s time inputs };
 
     // A state has as many words as the region.
     ghost counted: { (b : Self) (s : Self.State) → length ((block b).words_of s) ≡ (block b).size };
@@ -74,46 +74,46 @@ impl<B: SteppedBlock> ControlBlock for B {
     ghost told = { λ b. stepped_told (B.block b) };
 
     #[tactic(auto, unfolding(crate::specs::Stepped::stepped_machine))]
-    fn is_accepted(self) -> bool {
+    fn is_accepted(&self) -> bool {
         SteppedBlock::is_accepted(self)
     }
 
     #[tactic(auto, unfolding(crate::specs::Stepped::stepped_machine))]
-    fn size(self) -> usize {
+    fn size(&self) -> usize {
         SteppedBlock::size(self)
     }
 
-    fn refresh(self, region: &mut [u64]) {
+    fn refresh(&self, region: &mut [u64]) {
         self.write(region, self.initial());
     }
 
-    fn read(self, region: &[u64]) -> B::State {
+    fn read(&self, region: &[u64]) -> B::State {
         SteppedBlock::read(self, region)
     }
 
-    fn decodes(self, s: B::State) -> bool {
+    fn decodes(&self, s: B::State) -> bool {
         previous_sound(SteppedBlock::previous(self, s))
     }
 
-    fn previous(self, s: B::State) -> Previous {
+    fn previous(&self, s: B::State) -> Previous {
         SteppedBlock::previous(self, s)
     }
 
-    fn is_orderly(self, _s: B::State, _region: &[u64]) -> bool {
+    fn is_orderly(&self, _s: B::State, _region: &[u64]) -> bool {
         true
     }
 
-    fn emitted(self, s: B::State, time: f64, inputs: Inputs, _region: &[u64]) -> Reply {
+    fn emitted(&self, s: B::State, time: f64, inputs: Inputs, _region: &[u64]) -> Reply {
         self.step(s, time, inputs).answer
     }
 
-    fn updated(self, s: B::State, time: f64, inputs: Inputs, region: &mut [u64]) -> Reply {
+    fn updated(&self, s: B::State, time: f64, inputs: Inputs, region: &mut [u64]) -> Reply {
         let step = self.step(s, time, inputs);
         self.write(region, step.after);
         warning_answer(false)
     }
 
-    fn ticked(self, s: B::State, time: f64, inputs: Inputs, region: &mut [u64]) -> Reply {
+    fn ticked(&self, s: B::State, time: f64, inputs: Inputs, region: &mut [u64]) -> Reply {
         let step = self.step(s, time, inputs);
         self.write(region, step.after);
         step.answer

@@ -36,7 +36,7 @@ impl SteppedBlock for LogicalVariablePulse {
 
     ghost counted = { counted };
 
-    fn is_accepted(self) -> bool {
+    fn is_accepted(&self) -> bool {
         let are_finite = is_finite(self.period)
             & is_finite(self.delta_u)
             & is_finite(self.min_true_false_hold);
@@ -46,11 +46,11 @@ impl SteppedBlock for LogicalVariablePulse {
         are_finite & within
     }
 
-    fn size(self) -> usize {
+    fn size(&self) -> usize {
         STATE_LEN
     }
 
-    fn initial(self) -> State {
+    fn initial(&self) -> State {
         State {
             sampled_u: 0.0,
             t0: 0.0,
@@ -61,7 +61,7 @@ impl SteppedBlock for LogicalVariablePulse {
     }
 
     #[tactic(auto, unfolding(crate::specs::LogicalVariablePulse::state_of))]
-    fn read(self, region: &[u64]) -> State {
+    fn read(&self, region: &[u64]) -> State {
         State {
             sampled_u: real_at(region, SAMPLED_U_WORD),
             t0: real_at(region, T0_WORD),
@@ -72,7 +72,7 @@ impl SteppedBlock for LogicalVariablePulse {
     }
 
     #[tactic(auto, unfolding(crate::specs::LogicalVariablePulse::words_of))]
-    fn write(self, region: &mut [u64], s: State) {
+    fn write(&self, region: &mut [u64], s: State) {
         let words = [
             word_of(s.sampled_u),
             word_of(s.t0),
@@ -83,12 +83,12 @@ impl SteppedBlock for LogicalVariablePulse {
         store(region, &words);
     }
 
-    fn previous(self, s: State) -> Previous {
+    fn previous(&self, s: State) -> Previous {
         s.previous
     }
 
-    fn step(self, s: State, time: f64, inputs: Inputs) -> Step<State> {
-        let after = advance(self, s, time, inputs);
+    fn step(&self, s: State, time: f64, inputs: Inputs) -> Step<State> {
+        let after = advance(*self, s, time, inputs);
         Step {
             answer: boolean_answer(after.held),
             after,

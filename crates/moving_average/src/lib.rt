@@ -65,34 +65,34 @@ impl ControlBlock for Windowed {
     ghost told = { λ b. told b.settings };
 
     #[tactic(auto, unfolding(crate::specs::MovingAverage::machine_for))]
-    fn is_accepted(self) -> bool {
+    fn is_accepted(&self) -> bool {
         is_finite(self.settings.delta)
     }
 
     #[tactic(auto, unfolding(crate::specs::MovingAverage::machine_for))]
-    fn size(self) -> usize {
+    fn size(&self) -> usize {
         self.shape.length
     }
 
-    fn refresh(self, region: &mut [u64]) {
+    fn refresh(&self, region: &mut [u64]) {
         clear(region);
         region[2] = PREV_T_UNSET;
     }
 
-    fn read(self, region: &[u64]) -> State {
+    fn read(&self, region: &[u64]) -> State {
         state_of(region)
     }
 
-    fn decodes(self, s: State) -> bool {
+    fn decodes(&self, s: State) -> bool {
         decodes(s, self.shape.capacity)
     }
 
-    fn previous(self, s: State) -> Previous {
+    fn previous(&self, s: State) -> Previous {
         s.previous
     }
 
     // The times of its ring are in order.
-    fn is_orderly(self, s: State, region: &[u64]) -> bool {
+    fn is_orderly(&self, s: State, region: &[u64]) -> bool {
         let points = Points {
             region,
             ring: ring_of(s, self.shape.capacity),
@@ -101,7 +101,7 @@ impl ControlBlock for Windowed {
     }
 
     // The mean as of this tick.
-    fn emitted(self, s: State, time: f64, inputs: Inputs, region: &[u64]) -> Reply {
+    fn emitted(&self, s: State, time: f64, inputs: Inputs, region: &[u64]) -> Reply {
         let mu = mu_now(s, time, real_of(inputs.first));
         let points = Points {
             region,
@@ -110,13 +110,13 @@ impl ControlBlock for Windowed {
         real_answer(points.output(self.shape, s, time, mu))
     }
 
-    fn updated(self, s: State, time: f64, inputs: Inputs, region: &mut [u64]) -> Reply {
+    fn updated(&self, s: State, time: f64, inputs: Inputs, region: &mut [u64]) -> Reply {
         let mu = mu_now(s, time, real_of(inputs.first));
         warning_answer(advance(self.shape, region, s, time, mu))
     }
 
     // The integral is computed once.
-    fn ticked(self, s: State, time: f64, inputs: Inputs, region: &mut [u64]) -> Reply {
+    fn ticked(&self, s: State, time: f64, inputs: Inputs, region: &mut [u64]) -> Reply {
         let mu = mu_now(s, time, real_of(inputs.first));
         let points = Points {
             region,

@@ -22,8 +22,8 @@ pub struct Controller {
 impl Controller {
     // What it hears of a tick: without reset no trigger.
     #[tactic(auto, unfolding(crate::specs::Pid::heard))]
-    fn heard(self, inputs: Inputs) -> Heard
-        ensures { result ≡ heard self.with_reset inputs }
+    fn heard(&self, inputs: Inputs) -> Heard
+        ensures { result ≡ heard self.now.with_reset inputs }
     {
         Heard {
             u_s: real_of(inputs.first),
@@ -42,15 +42,15 @@ impl SteppedBlock for Controller {
 
     ghost counted = { λ c. counted c.settings.controller_type c.with_reset };
 
-    fn is_accepted(self) -> bool {
+    fn is_accepted(&self) -> bool {
         self.settings.accepted()
     }
 
-    fn size(self) -> usize {
+    fn size(&self) -> usize {
         size(self)
     }
 
-    fn initial(self) -> State {
+    fn initial(&self) -> State {
         State {
             integrator: self.settings.xi_start,
             previous: None,
@@ -59,20 +59,20 @@ impl SteppedBlock for Controller {
         }
     }
 
-    fn read(self, region: &[u64]) -> State {
+    fn read(&self, region: &[u64]) -> State {
         state_of(self, region)
     }
 
-    fn write(self, region: &mut [u64], s: State) {
+    fn write(&self, region: &mut [u64], s: State) {
         write(self, region, s);
     }
 
-    fn previous(self, s: State) -> Previous {
+    fn previous(&self, s: State) -> Previous {
         s.previous
     }
 
     // The output is of the integrator before the tick.
-    fn step(self, s: State, time: f64, inputs: Inputs) -> Step<State> {
+    fn step(&self, s: State, time: f64, inputs: Inputs) -> Step<State> {
         let now = self.heard(inputs);
         let terms = self.settings.current_terms(s, now);
         Step {

@@ -9,8 +9,8 @@ use dynamics::{flag_at, previous_at, real_at, store, word_of_previous};
 use reals::{word_of, word_of_flag};
 
 // How many words it keeps.
-pub(crate) fn size(c: Controller) -> usize
-    ensures { result ≡ state_length c.settings.controller_type c.with_reset }
+pub(crate) fn size(c: &Controller) -> usize
+    ensures { result ≡ state_length c.now.settings.controller_type c.now.with_reset }
 {
     match c.settings.controller_type {
         ControllerType::P => 0,
@@ -22,8 +22,8 @@ pub(crate) fn size(c: Controller) -> usize
 
 // What a region's words mean; a part that the type lacks is 0.0, unset or false.
 #[tactic(auto, unfolding(crate::specs::Pid::state_of))]
-pub(crate) fn state_of(c: Controller, region: &[u64]) -> State
-    ensures { result ≡ state_of c.settings.controller_type c.with_reset region.now }
+pub(crate) fn state_of(c: &Controller, region: &[u64]) -> State
+    ensures { result ≡ state_of c.now.settings.controller_type c.now.with_reset region.now }
 {
     match c.settings.controller_type {
         ControllerType::P => State {
@@ -54,8 +54,8 @@ pub(crate) fn state_of(c: Controller, region: &[u64]) -> State
 }
 
 // Stores a state in a region of its length.
-pub(crate) fn write(c: Controller, region: &mut [u64], s: State)
-    ensures { region.new ≡ stored region.old (words_of c.settings.controller_type c.with_reset s) }
+pub(crate) fn write(c: &Controller, region: &mut [u64], s: State)
+    ensures { region.new ≡ stored region.old (words_of c.now.settings.controller_type c.now.with_reset s) }
 {
     let i = word_of(s.integrator);
     let t = word_of_previous(s.previous);

@@ -27,15 +27,15 @@ impl SteppedBlock for TimerAccumulating {
 
     ghost counted = { counted };
 
-    fn is_accepted(self) -> bool {
+    fn is_accepted(&self) -> bool {
         is_finite(self.t)
     }
 
-    fn size(self) -> usize {
+    fn size(&self) -> usize {
         STATE_LEN
     }
 
-    fn initial(self) -> State {
+    fn initial(&self) -> State {
         State {
             total: 0.0,
             previous: None,
@@ -46,7 +46,7 @@ impl SteppedBlock for TimerAccumulating {
     }
 
     #[tactic(auto, unfolding(crate::specs::TimerAccumulating::state_of))]
-    fn read(self, region: &[u64]) -> State {
+    fn read(&self, region: &[u64]) -> State {
         State {
             total: real_at(region, ACC_WORD),
             previous: previous_at(region, PREV_T_WORD),
@@ -57,7 +57,7 @@ impl SteppedBlock for TimerAccumulating {
     }
 
     #[tactic(auto, unfolding(crate::specs::TimerAccumulating::words_of))]
-    fn write(self, region: &mut [u64], s: State) {
+    fn write(&self, region: &mut [u64], s: State) {
         let words = [
             word_of(s.total),
             word_of_previous(s.previous),
@@ -68,12 +68,12 @@ impl SteppedBlock for TimerAccumulating {
         store(region, &words);
     }
 
-    fn previous(self, s: State) -> Previous {
+    fn previous(&self, s: State) -> Previous {
         s.previous
     }
 
-    fn step(self, s: State, time: f64, inputs: Inputs) -> Step<State> {
-        let after = advance(self, s, time, inputs);
+    fn step(&self, s: State, time: f64, inputs: Inputs) -> Step<State> {
+        let after = advance(*self, s, time, inputs);
         Step {
             answer: both_answer(after.total, after.passed),
             after,

@@ -28,15 +28,15 @@ impl SteppedBlock for TrueDelay {
 
     ghost counted = { counted };
 
-    fn is_accepted(self) -> bool {
+    fn is_accepted(&self) -> bool {
         is_finite(self.delay_time)
     }
 
-    fn size(self) -> usize {
+    fn size(&self) -> usize {
         STATE_LEN
     }
 
-    fn initial(self) -> State {
+    fn initial(&self) -> State {
         State {
             timer: 0.0,
             previous: None,
@@ -46,7 +46,7 @@ impl SteppedBlock for TrueDelay {
     }
 
     #[tactic(auto, unfolding(crate::specs::TrueDelay::state_of))]
-    fn read(self, region: &[u64]) -> State {
+    fn read(&self, region: &[u64]) -> State {
         State {
             timer: real_at(region, TIMER_WORD),
             previous: previous_at(region, PREV_T_WORD),
@@ -56,7 +56,7 @@ impl SteppedBlock for TrueDelay {
     }
 
     #[tactic(auto, unfolding(crate::specs::TrueDelay::words_of))]
-    fn write(self, region: &mut [u64], s: State) {
+    fn write(&self, region: &mut [u64], s: State) {
         let words = [
             word_of(s.timer),
             word_of_previous(s.previous),
@@ -66,12 +66,12 @@ impl SteppedBlock for TrueDelay {
         store(region, &words);
     }
 
-    fn previous(self, s: State) -> Previous {
+    fn previous(&self, s: State) -> Previous {
         s.previous
     }
 
-    fn step(self, s: State, time: f64, inputs: Inputs) -> Step<State> {
-        let after = advance(self, s, time, inputs);
+    fn step(&self, s: State, time: f64, inputs: Inputs) -> Step<State> {
+        let after = advance(*self, s, time, inputs);
         Step {
             answer: boolean_answer(after.held),
             after,

@@ -26,32 +26,32 @@ impl SteppedBlock for TrueHoldWithReset {
 
     ghost counted = { λ b. counted };
 
-    fn is_accepted(self) -> bool {
+    fn is_accepted(&self) -> bool {
         is_finite(self.duration)
     }
 
-    fn size(self) -> usize {
+    fn size(&self) -> usize {
         STATE_LEN
     }
 
-    fn initial(self) -> State {
+    fn initial(&self) -> State {
         State::fresh()
     }
 
-    fn read(self, region: &[u64]) -> State {
+    fn read(&self, region: &[u64]) -> State {
         State::read(region)
     }
 
-    fn write(self, region: &mut [u64], s: State) {
+    fn write(&self, region: &mut [u64], s: State) {
         s.write(region);
     }
 
-    fn previous(self, s: State) -> Previous {
+    fn previous(&self, s: State) -> Previous {
         s.previous
     }
 
-    fn step(self, s: State, time: f64, inputs: Inputs) -> Step<State> {
-        let after = advance(self, s, time, inputs);
+    fn step(&self, s: State, time: f64, inputs: Inputs) -> Step<State> {
+        let after = advance(*self, s, time, inputs);
         Step {
             answer: boolean_answer(after.held),
             after,

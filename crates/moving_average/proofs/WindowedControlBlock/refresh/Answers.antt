@@ -9,7 +9,7 @@ use Rattle.moving_average.proofs.Decoding.{has_six, refreshed}
 use Rattle.moving_average.proofs.WindowedControlBlock.refresh.Goals as goal
 
 pub bounds-region-2 : goal.bounds-region-2
-bounds-region-2 c = omega (arith, c.clear.auto.region, has_six c.args.self.settings c.args.region.now c.requires)
+bounds-region-2 c = omega (arith, c.clear.auto.region, has_six c.args.self.now.settings c.args.region.now c.requires)
 
 pub returns : goal.returns
-returns c = refreshed c.args.self.settings c.args.region.now c.requires (ap (λ (l : List ℕ). set l 2 unset) c.clear.ensures)
+returns c = refreshed c.args.self.now.settings c.args.region.now c.requires (ap (λ (l : List ℕ). set l 2 unset) c.clear.ensures)

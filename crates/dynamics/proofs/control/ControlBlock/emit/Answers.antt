@@ -5,9 +5,9 @@ use Rattle.dynamics.proofs.control.ControlBlock.emit.Goals as goal
 pub returns-in_err-s : goal.returns-in_err-s
 returns-in_err-s g c =
     let b = g.Self.ControlBlock in
-    emit_else (b.machine c.args.self) (b.state_of c.args.self) c.args.region.now c.args.time c.args.inputs c.in_err-s.ensures c.from_residual.result c.from_residual.ensures.1
+    emit_else (b.machine c.args.self.now) (b.state_of c.args.self.now) c.args.region.now c.args.time c.args.inputs c.in_err-s.ensures c.from_residual.result c.from_residual.ensures.1
 
 pub returns : goal.returns
 returns g c =
     let b = g.Self.ControlBlock in
-    emit_then (b.machine c.args.self) (b.state_of c.args.self) c.args.region.now c.args.time c.args.inputs c.in_ok-s.ensures c.emitted.ensures
+    emit_then (b.machine c.args.self.now) (b.state_of c.args.self.now) c.args.region.now c.args.time c.args.inputs c.in_ok-s.ensures c.emitted.ensures

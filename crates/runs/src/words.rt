@@ -1,9 +1,10 @@
 // The words of a run: those of a tick in, those of its answer out.
 ghost use Rattle.std.specs.Prelude.{◌+◌, ◌*◌, ◌≤◌, ◌<◌, ◌≡◌, length};
 ghost use Rattle.std.proofs.lemmas.List.Edits.{sets};
+ghost use Rattle.dynamics.specs.Answer.{answer_of};
 ghost use Rattle.runs.specs.Run.{words_per_answer, ticks_in, asked_at, answer_in_words};
 
-use dynamics::{Answer, Inputs};
+use dynamics::{Inputs, Refusal, Reply};
 use reals::{real_of, word_of, word_of_flag};
 
 // How many words a tick has, and how many its answer.
@@ -34,14 +35,30 @@ pub(crate) fn asked_at(ticks: &[u64], n: usize) -> Asked
     }
 }
 
+// What a call says, in words: with a refusal its number and zeros.
+fn answer_words(met: Result<Reply, Refusal>) -> [u64; WORDS_PER_ANSWER]
+    ensures { result ≡ answer_in_words (answer_of met) }
+{
+    match met {
+        Ok(reply) => [
+            0,
+            word_of(reply.real),
+            word_of_flag(reply.boolean),
+            word_of_flag(reply.warning),
+        ],
+        Err(refusal) => [refusal.into(), 0, 0, 0],
+    }
+}
+
 // Writes the answer of this number, from 0.
-pub(crate) fn put_answer(answers: &mut [u64], n: usize, a: Answer)
+pub(crate) fn put_answer(answers: &mut [u64], n: usize, met: Result<Reply, Refusal>)
     requires { words_per_answer * (n + 1) ≤ length answers.old }
-    ensures { answers.new ≡ sets answers.old (words_per_answer * n) (answer_in_words a) }
+    ensures { answers.new ≡ sets answers.old (words_per_answer * n) (answer_in_words (answer_of met)) }
 {
     let at = WORDS_PER_ANSWER * n;
-    answers[at] = a.refusal;
-    answers[at + 1] = word_of(a.real);
-    answers[at + 2] = word_of_flag(a.boolean);
-    answers[at + 3] = word_of_flag(a.warning);
+    let [refusal, real, boolean, warning] = answer_words(met);
+    answers[at] = refusal;
+    answers[at + 1] = real;
+    answers[at + 2] = boolean;
+    answers[at + 3] = warning;
 }

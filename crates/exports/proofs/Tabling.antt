@@ -155,25 +155,25 @@ module _ (w : List ℕ) where
       let z : on.left ≡ 0 = omega (arith, h, on.long) in
       on.rows ∙ rw z (ap some (append-nil on.so_far))
 
--- ---- the table that is given
-module _ (w : List ℕ) where
-  no_rows : rows_named w ≡ none → Tabled (rows_named w) None
+-- ---- the table that is left
+module _ (w : List ℕ) (t : Table) where
+  no_rows : rows_named w ≡ none → Tabled (rows_named w) None t
   unfolding by_rows
-  no_rows e = rw e (record { named = refl; first = λ rs by z. absurd (none-ne-some rs z) })
+  no_rows e = rw e (record { named = refl; first = λ rs z. absurd (none-ne-some rs z) })
 
   -- the words are not whole rows
-  pub tabled_odd : (length w % words_per_row ≡ 0 → ⊥) → Tabled (rows_named w) None
+  pub tabled_odd : (length w % words_per_row ≡ 0 → ⊥) → Tabled (rows_named w) None t
   unfolding rows_named
   tabled_odd h = no_rows (rw (ne_eqb _ _ h) refl)
 
   -- a row names no block
-  pub tabled_nothing : length w % words_per_row ≡ 0 → rows_by (length w / words_per_row) w ≡ none → Tabled (rows_named w) None
+  pub tabled_nothing : length w % words_per_row ≡ 0 → rows_by (length w / words_per_row) w ≡ none → Tabled (rows_named w) None t
   unfolding rows_named
   tabled_nothing whole e = no_rows (rw (eq-eqb _ _ whole, e) refl)
 
   -- every row names one
-  pub tabled_all : {t : Table} {rest : List ℕ} → length w % words_per_row ≡ 0 → Tabling w t rest → length rest < words_per_row → Tabled (rows_named w) (Some t)
+  pub tabled_all : {rest : List ℕ} → length w % words_per_row ≡ 0 → Tabling w t rest → length rest < words_per_row → Tabled (rows_named w) (Some tt) t
   unfolding rows_named by_rows
-  tabled_all {t} whole on h =
+  tabled_all whole on h =
       let named : rows_named w ≡ some on.so_far = rw (eq-eqb _ _ whole, tabling_all w on h) refl in
-      rw named (record { named = refl; first = λ rs by y z. let e : by ≡ t = cc in rw e (on.shows ∙ ap (take table_rows) (some-injective on.so_far rs y)) })
+      rw named (record { named = refl; first = λ rs y. on.shows ∙ ap (take table_rows) (some-injective on.so_far rs y) })

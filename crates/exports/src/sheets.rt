@@ -106,9 +106,9 @@ fn no_table() -> Table
 // names no block. The table is lent: handed out in an `Option` it would be copied, which takes 2 KB of stack. A row's block is copied
 // once, from what `block_of` gives to its place.
 #[tactic(auto, using(crate::proofs::Tabling::few_settings))]
-fn read_rows(words: &[u64], table: &mut Table) -> Option<()>
+fn read_rows<'a>(words: &[u64], table: &'a mut Table) -> Option<&'a [Row]>
     requires { Bare table.old }
-    ensures { Tabled (rows_named words.now) result table.new }
+    ensures { Tabled (rows_named words.now) result }
 {
     if words.len() % WORDS_PER_ROW != 0 {
         return None;
@@ -125,7 +125,7 @@ fn read_rows(words: &[u64], table: &mut Table) -> Option<()>
         }
         table.count += 1;
     }
-    Some(())
+    Some(table.shown())
 }
 
 // Starts the sheet over these rows. 13 comes first: the words are not whole rows, or a row names no block.
@@ -133,10 +133,10 @@ pub fn oven_sheet_start(rows: &[u64], region: &mut [u64]) -> SheetWords
     ensures { StartsBy (rows_named rows.now) region.old result region.new }
 {
     let mut table = no_table();
-    if read_rows(rows, &mut table).is_none() {
+    let Some(read) = read_rows(rows, &mut table) else {
         return no_sheet();
-    }
-    sheet_words(start(table.shown(), region))
+    };
+    sheet_words(start(read, region))
 }
 
 // One tick of the sheet over these rows. 13 comes first, as for a start.
@@ -150,8 +150,8 @@ pub fn oven_sheet_tick(
     ensures { TicksBy (rows_named rows.now) (tick_by time words.now) region.old answers.old result region.new answers.new }
 {
     let mut table = no_table();
-    if read_rows(rows, &mut table).is_none() {
+    let Some(read) = read_rows(rows, &mut table) else {
         return no_sheet();
-    }
-    sheet_words(tick(table.shown(), tick_by(time, words), region, answers))
+    };
+    sheet_words(tick(read, tick_by(time, words), region, answers))
 }

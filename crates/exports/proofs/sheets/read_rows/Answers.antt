@@ -5,7 +5,7 @@ use Rattle.exports.proofs.sheets.read_rows.Goals.{then-table-lt-TABLE_ROWS, else
 use Rattle.exports.proofs.sheets.read_rows.Goals as goal
 
 pub returns-then-words-ne0 : goal.returns-then-words-ne0
-returns-then-words-ne0 c = tabled_odd _ _ c.if-words-ne0.true
+returns-then-words-ne0 c = tabled_odd _ c.if-words-ne0.true
 
 pub loop-row-init : goal.loop-row-init
 loop-row-init c = rw c.into_iter-row-iterator.ensures.into_iter_gives (record {
@@ -17,7 +17,7 @@ pub returns-in_default : goal.returns-in_default
 returns-in_default c =
     let (next, whole) = c.in-Some.ensures.steps.1 in
     let nothing = row_nothing _ _ c.settings_read-stop.ensures c.block_of-named.ensures c.in_default.is in
-    tabled_nothing _ _ c.if-words-ne0.false (tabling_nothing _ _ _ c.loop-row.invariant.tabling next (whole ∙ c.loop-row.invariant.size) nothing)
+    tabled_nothing _ c.if-words-ne0.false (tabling_nothing _ _ _ c.loop-row.invariant.tabling next (whole ∙ c.loop-row.invariant.size) nothing)
 
 pub loop-row-preserved : goal.loop-row-preserved
 loop-row-preserved c =
@@ -35,4 +35,4 @@ loop-row-preserved c =
 pub returns : goal.returns
 returns c =
     let on = c.loop-row.invariant in
-    tabled_all _ _ c.if-words-ne0.false on.tabling (rw on.size at c.in-None.ensures.steps.1.0)
+    tabled_all _ c.if-words-ne0.false on.tabling (rw on.size at c.in-None.ensures.steps.1.0) c.shown.ensures

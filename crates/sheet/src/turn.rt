@@ -5,7 +5,7 @@ ghost use Rattle.sheet.specs.Walk.{Turn, carried, survey_turn, start_turn, emitt
 
 use crate::row::Row;
 use crate::seen::{INPUT_WORDS, MOST_ROWS, ROW_ANSWERS, Seen};
-use crate::walk::{Walk, past};
+use crate::walk::Walk;
 use blocks::{answer_words, state_length};
 
 // Columns below this name the input words; from here on they name the answer words, so many for each row.
@@ -61,7 +61,7 @@ impl Pass for Survey {
         if own.refusal != 0 {
             return walk.noted(own.refusal, i);
         }
-        let Some(end) = past(walk.at, own.length, region.len()) else {
+        let Some(end) = walk.past(own.length, region.len()) else {
             return walk.noted(3, 0);
         };
         seen.put_end(i, end);
@@ -85,7 +85,7 @@ impl Pass for Start {
         _seen: &mut Seen,
     ) -> Walk {
         let own = state_length(row.block);
-        let Some(end) = past(walk.at, own.length, region.len()) else {
+        let Some(end) = walk.past(own.length, region.len()) else {
             return walk;
         };
         blocks::start(row.block, &mut region[walk.at..end]);
@@ -134,7 +134,7 @@ impl Pass for Update {
         seen: &mut Seen,
     ) -> Walk {
         let end = seen.ends[i];
-        // `get_mut` of a range says nothing of what the region ends as.
+        // No `get_mut` of the range: its contract says nothing of what the region ends as.
         if (end < walk.at) | (region.len() < end) {
             return walk;
         }

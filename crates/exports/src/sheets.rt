@@ -22,14 +22,16 @@ pub struct SheetWords {
 }
 
 // What a sheet answers, in words.
-#[tactic(auto, unfolding(crate::specs::Sheets::sheet_crossed))]
-fn sheet_words(a: SheetAnswer) -> SheetWords
-    ensures { result ≡ sheet_crossed a }
-{
-    SheetWords {
-        refusal: a.refusal,
-        row: a.row as u64,
-        warning: word_of_flag(a.warning),
+impl From<SheetAnswer> for SheetWords {
+    ghost from_gives = { λ a words. words ≡ sheet_crossed a };
+
+    #[tactic(auto, unfolding(crate::specs::Sheets::sheet_crossed))]
+    fn from(a: SheetAnswer) -> SheetWords {
+        SheetWords {
+            refusal: a.refusal,
+            row: a.row as u64,
+            warning: word_of_flag(a.warning),
+        }
     }
 }
 
@@ -102,9 +104,9 @@ fn no_table() -> Table
     }
 }
 
-// Reads the rows that all words are into a table, which shows the first of them. Nothing if the words are not whole rows, or a row
-// names no block. The table is lent: handed out in an `Option` it would be copied, which takes 2 KB of stack. A row's block is copied
-// once, from what `block_of` gives to its place.
+// The rows that all words are, as many as a table shows; nothing if the words are not whole rows, or a row names no block. The table is
+// lent: in an `Option<Table>` it is copied on the way out, and a start takes 9480 bytes of stack, more than the 8192 that oven.h and
+// docs/TRUST.md name. A row's block is copied once, from what `block_of` gives to its place.
 #[tactic(auto, using(crate::proofs::Tabling::few_settings))]
 fn read_rows<'a>(words: &[u64], table: &'a mut Table) -> Option<&'a [Row]>
     requires { Bare table.old }
@@ -136,7 +138,7 @@ pub fn oven_sheet_start(rows: &[u64], region: &mut [u64]) -> SheetWords
     let Some(read) = read_rows(rows, &mut table) else {
         return no_sheet();
     };
-    sheet_words(start(read, region))
+    start(read, region).into()
 }
 
 // One tick of the sheet over these rows. 13 comes first, as for a start.
@@ -153,5 +155,5 @@ pub fn oven_sheet_tick(
     let Some(read) = read_rows(rows, &mut table) else {
         return no_sheet();
     };
-    sheet_words(tick(read, tick_by(time, words), region, answers))
+    tick(read, tick_by(time, words), region, answers).into()
 }

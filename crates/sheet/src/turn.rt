@@ -13,7 +13,8 @@ const INPUT_COLUMNS: u64 = INPUT_WORDS as u64;
 
 const ROW_COLUMNS: u64 = ROW_ANSWERS as u64;
 
-// What a walk does on each row: the function on all that the walk carries, and the row's turn, which is that function.
+// What a walk does on each row: the function on all that the walk carries, and the row's turn, which is that function. Region and words
+// are lent each by itself: of a struct that holds the lent region no contract says what the region ends as.
 pub(crate) trait Pass {
     ghost turned: { Turn };
 

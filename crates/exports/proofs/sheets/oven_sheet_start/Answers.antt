@@ -6,4 +6,4 @@ pub returns-in_default : goal.returns-in_default
 returns-in_default c = start_refused _ c.read_rows.ensures c.in_default.is c.no_sheet.ensures
 
 pub returns : goal.returns
-returns c = start_crosses _ c.read_rows.ensures c.in-Some.is c.start.ensures c.sheet_words.ensures
+returns c = start_crosses _ c.read_rows.ensures c.in-Some.is c.start.ensures c.into.ensures

@@ -6,4 +6,4 @@ pub returns-in_default : goal.returns-in_default
 returns-in_default c = tick_refused _ c.read_rows.ensures c.in_default.is c.no_sheet.ensures
 
 pub returns : goal.returns
-returns c = tick_crosses _ c.read_rows.ensures c.in-Some.is c.tick_by.ensures c.tick.ensures c.sheet_words.ensures
+returns c = tick_crosses _ c.read_rows.ensures c.in-Some.is c.tick_by.ensures c.tick.ensures c.into.ensures

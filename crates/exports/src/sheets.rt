@@ -50,10 +50,9 @@ fn no_sheet() -> SheetWords
 fn tick_by(time: u64, words: &[u64; 8]) -> Tick
     ensures { result ≡ tick_by time words.now }
 {
-    let held = *words;
     Tick {
         time: real_of(time),
-        words: held,
+        words: *words,
     }
 }
 

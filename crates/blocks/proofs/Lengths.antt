@@ -11,23 +11,23 @@ use lib.Ieee.Scale.{finite}
 use Rattle.dynamics.specs.Previous.{runs_back}
 use Rattle.dynamics.specs.Answer.{refusal_of, skipped, accept}
 use Rattle.dynamics.specs.Machine.{Machine, sized, start_refusal, tick_refusal, started_words, updated_words}
-use Rattle.dynamics.specs.Stepped.{stepped_machine}
+use Rattle.dynamics.specs.Stepped.{Stepped, stepped_machine}
 use Rattle.dynamics.specs.declared.call.Inputs.{Inputs}
 use Rattle.dynamics.proofs.Calls.{start_sized, tick_sized}
-use Rattle.dynamics.proofs.Steps.{Opens}
 use Rattle.controller.specs.declared.config.ControllerType.{ControllerType}
 use Rattle.controller.specs.declared.config.ControllerType.TheVariants.{P, Pi, Pd}
 use Rattle.controller.specs.declared.config.ControllerType.TheVariants as type
 use Rattle.window.proofs.Sizes.{length_most}
 use Rattle.pid.specs.Pid.{state_length}
-use Rattle.pid.proofs.Decoding.{controller}
+use Rattle.pid.specs.Pid as controllers
+use Rattle.hold.specs.Hold.{counted}
 use Rattle.moving_average.specs.MovingAverage.{machine_for}
 use Rattle.moving_average.proofs.Rules.{tick_length, fresh_length}
-use Rattle.timer_accumulating.proofs.Decoding as accumulating
-use Rattle.true_delay.proofs.Decoding as delay
-use Rattle.true_false_hold.proofs.Decoding as false_hold
-use Rattle.true_hold_with_reset.proofs.Decoding as reset_hold
-use Rattle.logical_variable_pulse.proofs.Decoding.{pulse}
+use Rattle.timer_accumulating.specs.TimerAccumulating as accumulating
+use Rattle.true_delay.specs.TrueDelay as delay
+use Rattle.true_false_hold.specs.TrueFalseHold as false_hold
+use Rattle.true_hold_with_reset.specs.TrueHoldWithReset as reset_hold
+use Rattle.logical_variable_pulse.specs.LogicalVariablePulse as pulse
 use Rattle.blocks.specs.Block.{machine_of, fresh}
 use Rattle.blocks.specs.declared.block.Block.{Block}
 use Rattle.blocks.specs.declared.block.Block.TheVariants.{Pid, PidWithReset, MovingAverage, TimerAccumulating, TrueDelay, TrueFalseHold, TrueHoldWithReset, LogicalVariablePulse}
@@ -39,11 +39,11 @@ pub record Measured (M : Machine) : Type 0 where
   pub few : M.size ≤ 262158
 
 -- a block whose words are a state record
-stepped : {X S D : Type 0} (O : Opens X S D) (b : X) → (O.block b).size ≤ 262158 → Measured (stepped_machine (O.block b))
+stepped : {S : Type 0} (B : Stepped S) → ((s : S) → length (B.words_of s) ≡ B.size) → B.size ≤ 262158 → Measured (stepped_machine B)
 unfolding stepped_machine
-stepped O b few = record {
-  fresh_sized = O.counted b (O.block b).initial;
-  after_sized = λ time i w ok. O.counted b _ ∙ sym (eqb-true _ _ (tick_sized (stepped_machine (O.block b)) time i w ok));
+stepped B counted few = record {
+  fresh_sized = counted B.initial;
+  after_sized = λ time i w ok. counted _ ∙ sym (eqb-true _ _ (tick_sized (stepped_machine B) time i w ok));
   few = few;
 }
 
@@ -57,18 +57,18 @@ controller_few type.Pid false = lit≤ tt
 
 pub measured : (b : Block) → Measured (machine_of b)
 unfolding machine_of
-measured (Pid s) = stepped (controller false) s (controller_few s.controller_type false)
-measured (PidWithReset s) = stepped (controller true) s (controller_few s.controller_type true)
+measured (Pid s) = stepped (controllers.block false s) (controllers.counted s.controller_type false) (controller_few s.controller_type false)
+measured (PidWithReset s) = stepped (controllers.block true s) (controllers.counted s.controller_type true) (controller_few s.controller_type true)
 measured (MovingAverage delta) = record {
   fresh_sized = fresh_length (record { delta = delta });
   after_sized = λ time i w ok. tick_length (record { delta = delta }) time i w ok;
   few = unfold machine_for in length_most delta;
 }
-measured (TimerAccumulating t) = stepped accumulating.timer (record { t = t }) (lit≤ tt)
-measured (TrueDelay time on_init) = stepped delay.timer (record { delay_time = time; delay_on_init = on_init }) (lit≤ tt)
-measured (TrueFalseHold long_true long_false) = stepped false_hold.hold (record { true_hold_duration = long_true; false_hold_duration = long_false }) (lit≤ tt)
-measured (TrueHoldWithReset duration) = stepped reset_hold.hold (record { duration = duration }) (lit≤ tt)
-measured (LogicalVariablePulse period delta least) = stepped pulse (record { period = period; delta_u = delta; min_true_false_hold = least }) (lit≤ tt)
+measured (TimerAccumulating t) = stepped (accumulating.block (record { t = t })) (accumulating.counted (record { t = t })) (lit≤ tt)
+measured (TrueDelay time on_init) = stepped (delay.block (record { delay_time = time; delay_on_init = on_init })) (delay.counted (record { delay_time = time; delay_on_init = on_init })) (lit≤ tt)
+measured (TrueFalseHold long_true long_false) = stepped (false_hold.block (record { true_hold_duration = long_true; false_hold_duration = long_false })) counted (lit≤ tt)
+measured (TrueHoldWithReset duration) = stepped (reset_hold.block (record { duration = duration })) counted (lit≤ tt)
+measured (LogicalVariablePulse period delta least) = stepped (pulse.block (record { period = period; delta_u = delta; min_true_false_hold = least })) (pulse.counted (record { period = period; delta_u = delta; min_true_false_hold = least })) (lit≤ tt)
 
 -- ---- what a start and an update leave has the region's length, refused or not
 accept_length : (n : ℕ) (v w : List ℕ) → (n ≡ 0 → length v ≡ length w) → length (accept n v w) ≡ length w

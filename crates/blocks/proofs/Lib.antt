@@ -1,7 +1,7 @@
 -- Laws of the choice over the eight blocks.
 pub mod Decoding
-pub mod Sounds
 pub mod OneResult
+pub mod Sounds
 pub mod Lengths
 pub mod Lacking
 pub mod Names

@@ -1,6 +1,7 @@
 -- Each public call's contract admits one result only, and one region. Assumes nothing.
-use Rattle.reals.proofs.Once.{Once, OnceLeft, equation_once, first_once}
+use Rattle.reals.proofs.Once.{Once, OnceLeft, equation_once}
 use Rattle.dynamics.proofs.Calls.{one_result}
+use Rattle.dynamics.proofs.OneResult.{first_brings_once}
 use Rattle.blocks.proofs.named.block_of.Reads as block_of
 use Rattle.blocks.proofs.state_length.Reads as length
 use Rattle.blocks.proofs.start.Reads as start
@@ -21,7 +22,7 @@ pub sound_once : Once sound.Post
 sound_once = equation_once
 
 pub decode_once : Once decode.Post
-decode_once = first_once
+decode_once = first_brings_once
 
 pub emit_once : Once emit.Post
 emit_once = equation_once

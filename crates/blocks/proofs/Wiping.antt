@@ -16,12 +16,12 @@ use Rattle.true_delay.proofs.Wiping as delay
 use Rattle.true_hold_with_reset.specs.declared.TrueHoldWithReset.{TrueHoldWithReset as ResetHold}
 use Rattle.true_hold_with_reset.proofs.Wiping as reset_hold
 use Rattle.blocks.specs.Block.{machine_of}
+use Rattle.std.specs.Prelude.{Some}
 use Rattle.blocks.specs.Named.{named_by}
 use Rattle.blocks.specs.Decoded.{state_of, zeros}
 use Rattle.blocks.specs.Wiping.{is_pi, wipeable, answers_wiping, account_of, SettingsF64}
 use Rattle.blocks.specs.declared.block.Block.{Block}
 use Rattle.blocks.specs.declared.block.Block.TheVariants.{Pid, PidWithReset, MovingAverage, TimerAccumulating, TrueDelay, TrueFalseHold, TrueHoldWithReset, LogicalVariablePulse}
-use Rattle.blocks.specs.declared.named.Named.TheVariants as variant
 use Rattle.blocks.proofs.Names.{settings_f64}
 
 pi_mode : (t : ControllerType) → is_pi t ≡ true → t ≡ Pi
@@ -105,7 +105,7 @@ module _ (b : Block) (wipes : wipeable b ≡ true) (f64 : SettingsF64 b) where
   read_told_from_start = let k = keeps b wipes f64 in read_from_start (machine_of b) (account_of b) k.good k.kept (state_of b) (zeros b)
 
 -- ---- a block that words name has such settings: so it is for every number and all words
-module _ (n : ℕ) (w : List ℕ) (b : Block) (is : named_by n w ≡ variant.Block b) (wipes : wipeable b ≡ true) where
+module _ (n : ℕ) (w : List ℕ) (b : Block) (is : named_by n w ≡ Some b) (wipes : wipeable b ≡ true) where
   pub told_named : RetoldFromWiping (machine_of b) (account_of b)
   told_named = told b wipes (settings_f64 n w b is)
 

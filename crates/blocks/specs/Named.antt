@@ -1,18 +1,15 @@
 -- A block from words: its number, and its settings in source order. Definitions only.
-use Rattle.std.specs.Prelude.{ℕ, Bool, ◌&&◌, cond, List, eqb, ltb, length, get_or}
+use Rattle.std.specs.Prelude.{ℕ, Option, Some, None, Bool, ◌&&◌, cond, List, eqb, ltb, length, get_or}
 use Rattle.reals.specs.Words.{real_of, flag_of}
 use Rattle.controller.specs.declared.config.ControllerType.{ControllerType}
 use Rattle.controller.specs.declared.config.ControllerType.TheVariants as type
 use Rattle.controller.specs.declared.config.ControllerConfig.{ControllerConfig}
 use Rattle.blocks.specs.declared.block.Block.{Block}
 use Rattle.blocks.specs.declared.block.Block.TheVariants.{Pid, PidWithReset, MovingAverage, TimerAccumulating, TrueDelay, TrueFalseHold, TrueHoldWithReset, LogicalVariablePulse}
-use Rattle.blocks.specs.declared.named.Named.{Named}
-use Rattle.blocks.specs.declared.named.Named.TheVariants.{Nothing}
-use Rattle.blocks.specs.declared.named.Named.TheVariants as variant
 
 -- the block, if the words are its settings
-abbrev pub named : Bool → Block → Named
-named are b = cond are (variant.Block b) Nothing
+abbrev pub named : Bool → Block → Option Block
+named are b = cond are (Some b) None
 
 -- ---- a controller: its type (0 P, 1 PI, 2 PD, 3 PID), then its eleven numbers and the direction as the settings have them
 
@@ -45,32 +42,32 @@ config_of w = record {
 
 -- ---- each block: a real by its bits, a boolean true unless 0
 
-abbrev pub pid_by : List ℕ → Named
+abbrev pub pid_by : List ℕ → Option Block
 pid_by w = named (names_controller w) (Pid (config_of w))
 
-abbrev pub pid_with_reset_by : List ℕ → Named
+abbrev pub pid_with_reset_by : List ℕ → Option Block
 pid_with_reset_by w = named (names_controller w) (PidWithReset (config_of w))
 
-abbrev pub average_by : List ℕ → Named
+abbrev pub average_by : List ℕ → Option Block
 average_by w = named (eqb (length w) 1) (MovingAverage (real_of (get_or w 0 0)))
 
-abbrev pub accumulating_by : List ℕ → Named
+abbrev pub accumulating_by : List ℕ → Option Block
 accumulating_by w = named (eqb (length w) 1) (TimerAccumulating (real_of (get_or w 0 0)))
 
-abbrev pub delay_by : List ℕ → Named
+abbrev pub delay_by : List ℕ → Option Block
 delay_by w = named (eqb (length w) 2) (TrueDelay (real_of (get_or w 0 0)) (flag_of (get_or w 1 0)))
 
-abbrev pub false_hold_by : List ℕ → Named
+abbrev pub false_hold_by : List ℕ → Option Block
 false_hold_by w = named (eqb (length w) 2) (TrueFalseHold (real_of (get_or w 0 0)) (real_of (get_or w 1 0)))
 
-abbrev pub reset_hold_by : List ℕ → Named
+abbrev pub reset_hold_by : List ℕ → Option Block
 reset_hold_by w = named (eqb (length w) 1) (TrueHoldWithReset (real_of (get_or w 0 0)))
 
-abbrev pub pulse_by : List ℕ → Named
+abbrev pub pulse_by : List ℕ → Option Block
 pulse_by w = named (eqb (length w) 3) (LogicalVariablePulse (real_of (get_or w 0 0)) (real_of (get_or w 1 0)) (real_of (get_or w 2 0)))
 
 -- the number chooses, in document 01's order, the pulse last; another number names nothing
-unfoldable pub named_by : ℕ → List ℕ → Named
+unfoldable pub named_by : ℕ → List ℕ → Option Block
 named_by n w =
     cond (eqb n 0) (pid_by w)
     (cond (eqb n 1) (pid_with_reset_by w)
@@ -80,4 +77,4 @@ named_by n w =
     (cond (eqb n 5) (false_hold_by w)
     (cond (eqb n 6) (reset_hold_by w)
     (cond (eqb n 7) (pulse_by w)
-    Nothing)))))))
+    None)))))))

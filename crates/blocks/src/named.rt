@@ -1,166 +1,96 @@
 // A block from words: its number, and its settings in source order.
-ghost use Rattle.std.specs.Prelude.{◌≡◌};
-ghost use Rattle.blocks.specs.Named.{controller_type_of, names_controller, config_of, pid_by, pid_with_reset_by, average_by, accumulating_by, delay_by, false_hold_by, reset_hold_by, pulse_by, named_by};
+ghost use Rattle.std.specs.Prelude.{◌≡◌, ltb};
+ghost use Rattle.std.specs.Bool.{then_some};
+ghost use Rattle.blocks.specs.Named.{controller_type_of, names_controller, config_of, named_by};
 
 use crate::block::Block;
 use controller::{ControllerConfig, ControllerType};
-use dynamics::{flag_at, real_at, word_at};
+use reals::{flag_of, real_of};
 
 // How many settings a controller has.
 pub const CONTROLLER_SETTINGS: usize = 13;
 
-// The block that words name, if they name one.
-#[derive(Clone, Copy)]
-pub enum Named {
-    Block(Block),
-    Nothing,
-}
-
-// The type that a word names; P for one that names none.
-fn controller_type_of(w: u64) -> ControllerType
-    ensures { result ≡ controller_type_of w }
+// The type that a word names, if it names one. C hands types and blocks as numbers. No `TryFrom`: its error would say nothing.
+fn controller_type_of(w: u64) -> Option<ControllerType>
+    ensures { result ≡ then_some (ltb w 4) (controller_type_of w) }
 {
-    if w == 1 {
-        return ControllerType::Pi;
+    match w {
+        0 => Some(ControllerType::P),
+        1 => Some(ControllerType::Pi),
+        2 => Some(ControllerType::Pd),
+        3 => Some(ControllerType::Pid),
+        _ => None,
     }
-    if w == 2 {
-        return ControllerType::Pd;
-    }
-    if w == 3 {
-        return ControllerType::Pid;
-    }
-    ControllerType::P
 }
 
-// Whether the words are a controller's settings: as many as there are, of a type that there is.
-fn names_controller(settings: &[u64]) -> bool
-    ensures { result ≡ names_controller settings.now }
+// The settings of a controller, if the words are such: as many as there are, of a type that there is.
+#[tactic(auto, unfolding(crate::specs::Named::names_controller, crate::specs::Named::config_of))]
+fn config_of(settings: &[u64]) -> Option<ControllerConfig>
+    ensures { result ≡ then_some (names_controller settings.now) (config_of settings.now) }
 {
-    (settings.len() == CONTROLLER_SETTINGS) & (word_at(settings, 0) < 4)
+    let [
+        kind,
+        k,
+        ti,
+        td,
+        r,
+        y_max,
+        y_min,
+        ni,
+        nd,
+        xi_start,
+        yd_start,
+        y_reset,
+        reverse,
+    ] = settings
+    else {
+        return None;
+    };
+    Some(ControllerConfig {
+        controller_type: controller_type_of(*kind)?,
+        k: real_of(*k),
+        ti: real_of(*ti),
+        td: real_of(*td),
+        r: real_of(*r),
+        y_max: real_of(*y_max),
+        y_min: real_of(*y_min),
+        ni: real_of(*ni),
+        nd: real_of(*nd),
+        xi_start: real_of(*xi_start),
+        yd_start: real_of(*yd_start),
+        y_reset: real_of(*y_reset),
+        reverse_acting: flag_of(*reverse),
+    })
 }
 
-// The settings that such words are.
-fn config_of(settings: &[u64]) -> ControllerConfig
-    ensures { result ≡ config_of settings.now }
-{
-    ControllerConfig {
-        controller_type: controller_type_of(word_at(settings, 0)),
-        k: real_at(settings, 1),
-        ti: real_at(settings, 2),
-        td: real_at(settings, 3),
-        r: real_at(settings, 4),
-        y_max: real_at(settings, 5),
-        y_min: real_at(settings, 6),
-        ni: real_at(settings, 7),
-        nd: real_at(settings, 8),
-        xi_start: real_at(settings, 9),
-        yd_start: real_at(settings, 10),
-        y_reset: real_at(settings, 11),
-        reverse_acting: flag_at(settings, 12),
-    }
-}
-
-fn pid_of(settings: &[u64]) -> Named
-    ensures { result ≡ pid_by settings.now }
-{
-    if names_controller(settings) {
-        return Named::Block(Block::Pid(config_of(settings)));
-    }
-    Named::Nothing
-}
-
-fn pid_with_reset_of(settings: &[u64]) -> Named
-    ensures { result ≡ pid_with_reset_by settings.now }
-{
-    if names_controller(settings) {
-        return Named::Block(Block::PidWithReset(config_of(settings)));
-    }
-    Named::Nothing
-}
-
-fn moving_average_of(settings: &[u64]) -> Named
-    ensures { result ≡ average_by settings.now }
-{
-    if settings.len() == 1 {
-        return Named::Block(Block::MovingAverage {
-            delta: real_at(settings, 0),
-        });
-    }
-    Named::Nothing
-}
-
-fn timer_accumulating_of(settings: &[u64]) -> Named
-    ensures { result ≡ accumulating_by settings.now }
-{
-    if settings.len() == 1 {
-        return Named::Block(Block::TimerAccumulating {
-            t: real_at(settings, 0),
-        });
-    }
-    Named::Nothing
-}
-
-fn true_delay_of(settings: &[u64]) -> Named
-    ensures { result ≡ delay_by settings.now }
-{
-    if settings.len() == 2 {
-        return Named::Block(Block::TrueDelay {
-            delay_time: real_at(settings, 0),
-            delay_on_init: flag_at(settings, 1),
-        });
-    }
-    Named::Nothing
-}
-
-fn true_false_hold_of(settings: &[u64]) -> Named
-    ensures { result ≡ false_hold_by settings.now }
-{
-    if settings.len() == 2 {
-        return Named::Block(Block::TrueFalseHold {
-            true_hold_duration: real_at(settings, 0),
-            false_hold_duration: real_at(settings, 1),
-        });
-    }
-    Named::Nothing
-}
-
-fn true_hold_with_reset_of(settings: &[u64]) -> Named
-    ensures { result ≡ reset_hold_by settings.now }
-{
-    if settings.len() == 1 {
-        return Named::Block(Block::TrueHoldWithReset {
-            duration: real_at(settings, 0),
-        });
-    }
-    Named::Nothing
-}
-
-fn logical_variable_pulse_of(settings: &[u64]) -> Named
-    ensures { result ≡ pulse_by settings.now }
-{
-    if settings.len() == 3 {
-        return Named::Block(Block::LogicalVariablePulse {
-            period: real_at(settings, 0),
-            delta_u: real_at(settings, 1),
-            min_true_false_hold: real_at(settings, 2),
-        });
-    }
-    Named::Nothing
-}
-
-// The block of this number with these settings.
-pub fn block_of(number: u64, settings: &[u64]) -> Named
+// The block of this number with these settings, if they are its own.
+#[tactic(auto, unfolding(crate::specs::Named::named_by))]
+pub fn block_of(number: u64, settings: &[u64]) -> Option<Block>
     ensures { result ≡ named_by number settings.now }
 {
-    match number {
-        0 => pid_of(settings),
-        1 => pid_with_reset_of(settings),
-        2 => moving_average_of(settings),
-        3 => timer_accumulating_of(settings),
-        4 => true_delay_of(settings),
-        5 => true_false_hold_of(settings),
-        6 => true_hold_with_reset_of(settings),
-        7 => logical_variable_pulse_of(settings),
-        _ => Named::Nothing,
+    match (number, settings) {
+        (0, _) => Some(Block::Pid(config_of(settings)?)),
+        (1, _) => Some(Block::PidWithReset(config_of(settings)?)),
+        (2, [delta]) => Some(Block::MovingAverage {
+            delta: real_of(*delta),
+        }),
+        (3, [t]) => Some(Block::TimerAccumulating { t: real_of(*t) }),
+        (4, [time, on_init]) => Some(Block::TrueDelay {
+            delay_time: real_of(*time),
+            delay_on_init: flag_of(*on_init),
+        }),
+        (5, [long_true, long_false]) => Some(Block::TrueFalseHold {
+            true_hold_duration: real_of(*long_true),
+            false_hold_duration: real_of(*long_false),
+        }),
+        (6, [duration]) => Some(Block::TrueHoldWithReset {
+            duration: real_of(*duration),
+        }),
+        (7, [period, delta, least]) => Some(Block::LogicalVariablePulse {
+            period: real_of(*period),
+            delta_u: real_of(*delta),
+            min_true_false_hold: real_of(*least),
+        }),
+        _ => None,
     }
 }

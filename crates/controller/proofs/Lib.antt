@@ -1,4 +1,4 @@
--- Laws of the controller's types and of its limits.
-pub mod Cases
+-- What the numbers of the code are, laws of the limits, and that each contract admits one result.
+pub mod Literals
 pub mod Limits
 pub mod OneResult

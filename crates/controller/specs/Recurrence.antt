@@ -1,12 +1,11 @@
 -- The limited controller's recurrence, rounding by rounding. Definitions only.
-use Rattle.std.specs.Prelude.{Bool, cond, Float}
+use Rattle.std.specs.Prelude.{Bool, cond, Float, Some}
 use Rattle.std.specs.Float.Ieee.{lt}
 use Rattle.reals.specs.Words.{0·0}
 use Rattle.reals.specs.Arithmetic.{◌⊕◌, ◌⊖◌, ◌⊗◌, ◌⊘◌}
 use Rattle.reals.specs.Rounding.{magnitude}
 use Rattle.dynamics.specs.Previous.{gap, is_first}
 use Rattle.dynamics.specs.Leaves.{accumulated, filtered, rising}
-use Rattle.dynamics.specs.declared.previous.Previous.TheVariants.{At}
 use Rattle.controller.specs.Settings.{with_i, with_d, direction, eps, k, ti, r, ni, derivative_gain, derivative_time}
 use Rattle.controller.specs.Limit.{limit}
 use Rattle.controller.specs.declared.config.ControllerConfig.{ControllerConfig}
@@ -80,7 +79,7 @@ state_after b s y time trigger =
     let dt = gap time s.previous in
     record {
       integrator = next_integrator b s y dt trigger;
-      previous = At time;
+      previous = Some time;
       filter = next_filter b s y.e dt;
       trigger = trigger;
     }

@@ -20,6 +20,22 @@ pub enum ControllerType {
     Pid,
 }
 
+impl ControllerType {
+    // Whether there is an integrator.
+    pub(crate) fn with_i(self) -> bool
+        ensures { result ≡ with_i self }
+    {
+        matches!(self, ControllerType::Pi | ControllerType::Pid)
+    }
+
+    // Whether there is a derivative filter.
+    pub(crate) fn with_d(self) -> bool
+        ensures { result ≡ with_d self }
+    {
+        matches!(self, ControllerType::Pd | ControllerType::Pid)
+    }
+}
+
 // A controller's settings: gain k, integral and derivative time ti and td, range r of the error, limits y_max and y_min of the output,
 // anti-windup factor ni, filter factor nd, the integrator and the derivative term at the start, the output that a reset aims at, and the direction.
 #[derive(Clone, Copy)]
@@ -39,57 +55,35 @@ pub struct ControllerConfig {
     pub reverse_acting: bool,
 }
 
-// Whether all eleven numbers are finite, whatever the type.
-pub fn settings_accepted(settings: ControllerConfig) -> bool
-    ensures { result ≡ settings_accepted settings }
-{
-    is_finite(settings.k)
-        & is_finite(settings.ti)
-        & is_finite(settings.td)
-        & is_finite(settings.r)
-        & is_finite(settings.y_max)
-        & is_finite(settings.y_min)
-        & is_finite(settings.ni)
-        & is_finite(settings.nd)
-        & is_finite(settings.xi_start)
-        & is_finite(settings.yd_start)
-        & is_finite(settings.y_reset)
-}
-
-// Whether there is an integrator.
-pub(crate) fn with_i(settings: ControllerConfig) -> bool
-    ensures { result ≡ with_i settings.controller_type }
-{
-    let controller_type = settings.controller_type;
-    match controller_type {
-        ControllerType::P => false,
-        ControllerType::Pi => true,
-        ControllerType::Pd => false,
-        ControllerType::Pid => true,
+impl ControllerConfig {
+    // Whether all eleven numbers are finite, whatever the type.
+    #[tactic(auto, unfolding(crate::specs::Settings::settings_accepted))]
+    pub fn accepted(self) -> bool
+        ensures { result ≡ settings_accepted self }
+    {
+        is_finite(self.k)
+            & is_finite(self.ti)
+            & is_finite(self.td)
+            & is_finite(self.r)
+            & is_finite(self.y_max)
+            & is_finite(self.y_min)
+            & is_finite(self.ni)
+            & is_finite(self.nd)
+            & is_finite(self.xi_start)
+            & is_finite(self.yd_start)
+            & is_finite(self.y_reset)
     }
-}
 
-// Whether there is a derivative filter.
-pub(crate) fn with_d(settings: ControllerConfig) -> bool
-    ensures { result ≡ with_d settings.controller_type }
-{
-    let controller_type = settings.controller_type;
-    match controller_type {
-        ControllerType::P => false,
-        ControllerType::Pi => false,
-        ControllerType::Pd => true,
-        ControllerType::Pid => true,
+    // 1.0, or -1.0 where the output shall rise with the measurement.
+    pub(crate) fn direction(self) -> f64
+        ensures { result ≡ direction self.reverse_acting }
+    {
+        if self.reverse_acting { 1.0 } else { -1.0 }
     }
-}
-
-// 1.0, or -1.0 where the output shall rise with the measurement.
-pub(crate) fn rev_act(settings: ControllerConfig) -> f64
-    ensures { result ≡ direction settings.reverse_acting }
-{
-    if settings.reverse_acting { 1.0 } else { -1.0 }
 }
 
 // A gain, time or factor as the recurrence works with it.
+#[tactic(auto, using(crate::proofs::Literals::least_is), unfolding(crate::specs::Settings::effective))]
 pub(crate) fn guarded_positive(x: f64) -> f64
     ensures { result ≡ effective x }
 {

@@ -3,68 +3,74 @@ ghost use Rattle.std.specs.Prelude.{◌≡◌};
 ghost use Rattle.controller.specs.Settings.{derivative_gain, derivative_time};
 ghost use Rattle.controller.specs.Recurrence.{derivative, filter_at_start, filter_before, next_filter};
 
-use crate::config::{CDL_EPS, ControllerConfig, guarded_positive, with_d};
+use crate::config::{CDL_EPS, ControllerConfig, guarded_positive};
 use crate::recurrence::State;
 use dynamics::{first_order_filter_implicit, is_first_tick};
 use reals::absolute;
 
-// k * td.
-fn derivative_gain(settings: ControllerConfig) -> f64
-    ensures { result ≡ derivative_gain settings }
-{
-    guarded_positive(settings.k) * guarded_positive(settings.td)
-}
+impl ControllerConfig {
+    // k * td.
+    #[tactic(auto, unfolding(crate::specs::Settings::derivative_gain))]
+    fn derivative_gain(self) -> f64
+        ensures { result ≡ derivative_gain self }
+    {
+        guarded_positive(self.k) * guarded_positive(self.td)
+    }
 
-// The filter's time constant, td / nd.
-fn derivative_time(settings: ControllerConfig) -> f64
-    ensures { result ≡ derivative_time settings }
-{
-    guarded_positive(settings.td) / guarded_positive(settings.nd)
-}
+    // The filter's time constant, td / nd.
+    #[tactic(auto, unfolding(crate::specs::Settings::derivative_time))]
+    fn derivative_time(self) -> f64
+        ensures { result ≡ derivative_time self }
+    {
+        guarded_positive(self.td) / guarded_positive(self.nd)
+    }
 
-// The derivative term: what the filter lags behind, or yd_start on the first tick.
-pub(crate) fn derivative_output(settings: ControllerConfig, s: State, e: f64) -> f64
-    ensures { result ≡ derivative settings s e }
-{
-    if with_d(settings) {
-        let previous = s.previous;
-        if is_first_tick(previous) {
-            return settings.yd_start;
+    // The derivative term: what the filter lags behind, or yd_start on the first tick.
+    #[tactic(auto, using(crate::proofs::Literals::zero_is), unfolding(crate::specs::Recurrence::derivative))]
+    pub(crate) fn derivative_output(self, s: State, e: f64) -> f64
+        ensures { result ≡ derivative self s e }
+    {
+        if !self.controller_type.with_d() {
+            return 0.0;
         }
-        return (derivative_gain(settings) / derivative_time(settings)) * (e - s.filter);
+        if is_first_tick(s.previous) {
+            return self.yd_start;
+        }
+        (self.derivative_gain() / self.derivative_time()) * (e - s.filter)
     }
-    0.0
-}
 
-// The filter's value that makes the first derivative term yd_start.
-fn derivative_x_for_start(settings: ControllerConfig, e: f64) -> f64
-    ensures { result ≡ filter_at_start settings e }
-{
-    let gain = derivative_gain(settings);
-    if absolute(gain) < CDL_EPS {
-        return e;
+    // The filter's value that makes the first derivative term yd_start.
+    #[tactic(auto, using(crate::proofs::Literals::eps_is), unfolding(crate::specs::Recurrence::filter_at_start))]
+    fn filter_at_start(self, e: f64) -> f64
+        ensures { result ≡ filter_at_start self e }
+    {
+        let gain = self.derivative_gain();
+        if absolute(gain) < CDL_EPS {
+            return e;
+        }
+        e - self.derivative_time() * self.yd_start / gain
     }
-    e - derivative_time(settings) * settings.yd_start / gain
-}
 
-// The filter's value before this tick.
-fn filter_before(settings: ControllerConfig, s: State, e: f64) -> f64
-    ensures { result ≡ filter_before settings s e }
-{
-    let previous = s.previous;
-    if is_first_tick(previous) {
-        return derivative_x_for_start(settings, e);
+    // The filter's value before this tick.
+    #[tactic(auto, unfolding(crate::specs::Recurrence::filter_before))]
+    fn filter_before(self, s: State, e: f64) -> f64
+        ensures { result ≡ filter_before self s e }
+    {
+        if is_first_tick(s.previous) {
+            return self.filter_at_start(e);
+        }
+        s.filter
     }
-    s.filter
-}
 
-// The filter's value after this tick.
-pub(crate) fn next_filter(settings: ControllerConfig, s: State, e: f64, dt: f64) -> f64
-    ensures { result ≡ next_filter settings s e dt }
-{
-    if with_d(settings) {
-        let x = filter_before(settings, s, e);
-        return first_order_filter_implicit(x, e, derivative_time(settings), dt);
+    // The filter's value after this tick.
+    #[tactic(auto, using(crate::proofs::Literals::zero_is), unfolding(crate::specs::Recurrence::next_filter))]
+    pub(crate) fn next_filter(self, s: State, e: f64, dt: f64) -> f64
+        ensures { result ≡ next_filter self s e dt }
+    {
+        if !self.controller_type.with_d() {
+            return 0.0;
+        }
+        let x = self.filter_before(s, e);
+        first_order_filter_implicit(x, e, self.derivative_time(), dt)
     }
-    0.0
 }

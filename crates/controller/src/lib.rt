@@ -7,5 +7,5 @@ mod integral;
 mod limit;
 mod recurrence;
 
-pub use config::{ControllerConfig, ControllerType, settings_accepted};
-pub use recurrence::{Heard, State, Terms, current_terms, next_state};
+pub use config::{ControllerConfig, ControllerType};
+pub use recurrence::{Heard, State, Terms};

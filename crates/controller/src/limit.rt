@@ -11,26 +11,30 @@ pub enum Rule {
     PassesNan,
 }
 
-// The sum, held between the limits by this rule.
-fn clamp(settings: ControllerConfig, rule: Rule, y_u: f64) -> f64
-    ensures { result ≡ clamp settings rule y_u }
-{
-    match rule {
-        Rule::PassesNan => {
-            if y_u > settings.y_max {
-                return settings.y_max;
+impl ControllerConfig {
+    // The sum, held between the limits by this rule.
+    #[tactic(auto, unfolding(crate::specs::Limit::clamp))]
+    fn clamp(self, rule: Rule, y_u: f64) -> f64
+        ensures { result ≡ clamp self rule y_u }
+    {
+        match rule {
+            Rule::PassesNan => {
+                if y_u > self.y_max {
+                    return self.y_max;
+                }
+                if y_u < self.y_min {
+                    return self.y_min;
+                }
+                y_u
             }
-            if y_u < settings.y_min {
-                return settings.y_min;
-            }
-            y_u
         }
     }
-}
 
-// The output for a sum.
-pub(crate) fn limit(settings: ControllerConfig, y_u: f64) -> f64
-    ensures { result ≡ limit settings y_u }
-{
-    clamp(settings, Rule::PassesNan, y_u)
+    // The output for a sum.
+    #[tactic(auto, unfolding(crate::specs::Limit::limit))]
+    pub(crate) fn limit(self, y_u: f64) -> f64
+        ensures { result ≡ limit self y_u }
+    {
+        self.clamp(Rule::PassesNan, y_u)
+    }
 }

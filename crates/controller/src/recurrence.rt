@@ -2,10 +2,7 @@
 ghost use Rattle.std.specs.Prelude.{◌≡◌};
 ghost use Rattle.controller.specs.Recurrence.{error, terms_of, state_after};
 
-use crate::config::{ControllerConfig, guarded_positive, rev_act};
-use crate::derivative::{derivative_output, next_filter};
-use crate::integral::{integral_output, next_integrator};
-use crate::limit::limit;
+use crate::config::{ControllerConfig, guarded_positive};
 use dynamics::{Previous, tick_dt};
 
 // What a controller remembers between two ticks. A part that its type lacks is 0.0, unset or false.
@@ -35,47 +32,45 @@ pub struct Terms {
     pub y: f64,
 }
 
-// How far the measurement is from the setpoint, in the direction of action.
-fn error(settings: ControllerConfig, heard: Heard) -> f64
-    ensures { result ≡ error settings heard }
-{
-    rev_act(settings) * (heard.u_s - heard.u_m) / guarded_positive(settings.r)
-}
-
-// The terms of this tick.
-pub fn current_terms(settings: ControllerConfig, s: State, heard: Heard) -> Terms
-    ensures { result ≡ terms_of settings s heard }
-{
-    let e = error(settings, heard);
-    let y_p = guarded_positive(settings.k) * e;
-    let y_d = derivative_output(settings, s, e);
-    let y_u = (y_p + y_d) + integral_output(settings, s);
-    let y = limit(settings, y_u);
-    Terms {
-        e,
-        y_p,
-        y_d,
-        y_u,
-        y,
+impl ControllerConfig {
+    // How far the measurement is from the setpoint, in the direction of action.
+    #[tactic(auto, unfolding(crate::specs::Recurrence::error))]
+    fn error(self, heard: Heard) -> f64
+        ensures { result ≡ error self heard }
+    {
+        self.direction() * (heard.u_s - heard.u_m) / guarded_positive(self.r)
     }
-}
 
-// The state after this tick, whose terms are these.
-pub fn next_state(
-    settings: ControllerConfig,
-    s: State,
-    terms: Terms,
-    time: f64,
-    trigger: bool,
-) -> State
-    ensures { result ≡ state_after settings s terms time trigger }
-{
-    let previous = s.previous;
-    let dt = tick_dt(time, previous);
-    State {
-        integrator: next_integrator(settings, s, terms, dt, trigger),
-        previous: Previous::At(time),
-        filter: next_filter(settings, s, terms.e, dt),
-        trigger,
+    // The terms of this tick.
+    #[tactic(auto, unfolding(crate::specs::Recurrence::terms_of, crate::specs::Recurrence::proportional))]
+    pub fn current_terms(self, s: State, heard: Heard) -> Terms
+        ensures { result ≡ terms_of self s heard }
+    {
+        let e = self.error(heard);
+        let y_p = guarded_positive(self.k) * e;
+        let y_d = self.derivative_output(s, e);
+        let y_u = (y_p + y_d) + self.integral_output(s);
+        let y = self.limit(y_u);
+        Terms {
+            e,
+            y_p,
+            y_d,
+            y_u,
+            y,
+        }
+    }
+
+    // The state after this tick, whose terms are these.
+    #[tactic(auto, unfolding(crate::specs::Recurrence::state_after))]
+    pub fn next_state(self, s: State, terms: Terms, time: f64, trigger: bool) -> State
+        ensures { result ≡ state_after self s terms time trigger }
+    {
+        let dt = tick_dt(time, s.previous);
+        State {
+            integrator: self.next_integrator(s, terms, dt, trigger),
+            previous: Some(time),
+            filter: self.next_filter(s, terms.e, dt),
+            trigger,
+        }
     }
 }

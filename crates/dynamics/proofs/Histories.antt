@@ -1,4 +1,5 @@
 -- A run of calls follows a history's account, if each accepted tick does: the one induction. Assumes nothing.
+use Rattle.std.specs.Prelude.{None, Some}
 use mathlib.Core.Path.{◌≡◌, refl, sym, ap, ◌∙◌, subst}
 use mathlib.Core.Bool.{Bool, true, false, not, cond}
 use mathlib.Core.List.{List, [], ◌∷◌}
@@ -15,7 +16,6 @@ use Rattle.dynamics.specs.Machine.{Tick, Call, starts, emits, updates, ticks, an
 use Rattle.dynamics.specs.History.{History, started, wiped, followed, newest, previous_in, Account, refused_after, grown, answer_after, history_after, retold_to, grown_by, retold, grown_through}
 use Rattle.dynamics.specs.History.{Wiping, RetoldFromWiping, RetoldFromStart, AlikeFromWiping, AnswersWiping, ReadAs, ReadFromWiping, ReadFromStart, ReadAlikeFromWiping}
 use Rattle.dynamics.specs.declared.call.Inputs.{Inputs}
-use Rattle.dynamics.specs.declared.previous.Previous.TheVariants.{Unset, At}
 use Rattle.dynamics.proofs.Times.{previous_back, unset_back}
 use Rattle.dynamics.proofs.Accepted.{accepted, accept_same, accept_ap, all_passed}
 use Rattle.dynamics.proofs.Calls.{sound_decodes, tick_settings, tick_time}
@@ -42,7 +42,7 @@ time_back (wiped k) = previous_back k.time k.is_f64
 time_back (followed h k) = previous_back k.time k.is_f64
 
 pub grown_sound : (wipes : Tick → History → Bool) (k : Tick) (h : History) → refused_after k h ≡ 0 → sound_previous (previous_in (grown wipes h k)) ≡ true
-grown_sound wipes k h ok = rw (newest_grown Unset (λ (j : Tick). At j.time) wipes k h) (forward k h ok).0
+grown_sound wipes k h ok = rw (newest_grown None (λ (j : Tick). Some j.time) wipes k h) (forward k h ok).0
 
 -- a wiping tick leaves its own words, whatever the region held before it
 abbrev pub WipedWords : Machine → Account → Type 0

@@ -1,4 +1,11 @@
 -- Each public function's contract admits one result only, and one region. Assumes nothing.
+use mathlib.Core.Path.{◌≡◌, refl, sym, ap, ◌∙◌}
+use Prim.Native.Nat.{ℕ}
+use Rattle.std.specs.Prelude.{Result, Ok, Err}
+use Rattle.dynamics.specs.Answer.{number_of, Brings}
+use Rattle.dynamics.specs.declared.refusal.Refusal.{Refusal}
+use Rattle.dynamics.proofs.Calls.{one_result}
+use Rattle.dynamics.proofs.Opening.{some_number, same_refusal, one_brought}
 use Rattle.reals.proofs.Once.{Once, OnceLeft, equation_once, left_once}
 use Rattle.dynamics.proofs.call.silent.Reads as silent
 use Rattle.dynamics.proofs.call.tick_answer.Reads as tick_answer
@@ -18,14 +25,24 @@ use Rattle.dynamics.proofs.previous.previous_sound.Reads as previous_sound
 use Rattle.dynamics.proofs.previous.is_first_tick.Reads as is_first_tick
 use Rattle.dynamics.proofs.previous.tick_dt.Reads as tick_dt
 use Rattle.dynamics.proofs.previous.runs_back.Reads as runs_back
-use Rattle.dynamics.proofs.refusal.form_refusal.Reads as form_refusal
-use Rattle.dynamics.proofs.refusal.time_refusal.Reads as time_refusal
 use Rattle.dynamics.proofs.region.word_at.Reads as word_at
 use Rattle.dynamics.proofs.region.real_at.Reads as real_at
 use Rattle.dynamics.proofs.region.flag_at.Reads as flag_at
 use Rattle.dynamics.proofs.region.previous_at.Reads as previous_at
 use Rattle.dynamics.proofs.region.store.Reads as store
 use Rattle.dynamics.proofs.region.clear.Reads as clear
+use Rattle.dynamics.proofs.control.ControlBlock.state_length.Reads as block_state_length
+use Rattle.dynamics.proofs.control.ControlBlock.start.Reads as block_start
+use Rattle.dynamics.proofs.control.ControlBlock.decode.Reads as block_decode
+use Rattle.dynamics.proofs.control.ControlBlock.sound.Reads as block_sound
+use Rattle.dynamics.proofs.control.ControlBlock.emit.Reads as block_emit
+use Rattle.dynamics.proofs.control.ControlBlock.update.Reads as block_update
+use Rattle.dynamics.proofs.control.ControlBlock.tick.Reads as block_tick
+use Rattle.dynamics.proofs.control.ControlBlock.admit.Reads as block_admit
+use Rattle.dynamics.proofs.control.ControlBlock.test_form.Reads as block_test_form
+use Rattle.dynamics.proofs.refusal.number_of.Reads as number
+use Rattle.dynamics.proofs.refusal.test_form.Reads as test_form
+use Rattle.dynamics.proofs.refusal.test_time.Reads as test_time
 
 pub silent_once : Once silent.Post
 silent_once = equation_once
@@ -81,12 +98,6 @@ tick_dt_once = equation_once
 pub runs_back_once : Once runs_back.Post
 runs_back_once = equation_once
 
-pub form_refusal_once : Once form_refusal.Post
-form_refusal_once = equation_once
-
-pub time_refusal_once : Once time_refusal.Post
-time_refusal_once = equation_once
-
 pub word_at_once : Once word_at.Post
 word_at_once = equation_once
 
@@ -104,3 +115,70 @@ store_once = left_once
 
 pub clear_once : OnceLeft clear.Post (λ κs s. s.0.now)
 clear_once = left_once
+
+-- ---- what is a number alone, and a number with what it brings
+units : (q r : Result (Unit {0}) Refusal) → number_of q ≡ number_of r → q ≡ r
+units (Ok x) (Ok y) e = refl
+units (Ok x) (Err r) e = absurd (some_number r (sym e))
+units (Err r) (Ok x) e = absurd (some_number r e)
+units (Err q) (Err r) e = ap Err (same_refusal q r e)
+
+pub numbered_once : {K : Type 0} {D : K → Type 0} {E : K → Type 0} {f : (κs : K) → D κs → ℕ}
+    → Once {K = K} {D = D} {R = Result (Unit {0}) Refusal} {E = E} (λ κs a r e. number_of r ≡ f κs a)
+numbered_once = record { alike = λ κs a x y s t p q. units x y (p ∙ sym q) }
+
+pub brings_once : {K : Type 0} {D : K → Type 0} {X : Type 0} {E : K → Type 0} {f : (κs : K) → D κs → ℕ} {g : (κs : K) → D κs → X}
+    → Once {K = K} {D = D} {R = Result X Refusal} {E = E} (λ κs a r e. Brings (f κs a) (g κs a) r)
+brings_once = record { alike = λ κs a x y s t p q. one_brought x y p q }
+
+pub first_brings_once : {K : Type 0} {D : K → Type 0} {X : Type 0} {E : K → Type 0} {f : (κs : K) → D κs → ℕ} {g : (κs : K) → D κs → X}
+    {More : (κs : K) → D κs → Result X Refusal → E κs → Type 0}
+    → Once {K = K} {D = D} {R = Result X Refusal} {E = E} (λ κs a r e. Brings (f κs a) (g κs a) r × More κs a r e)
+first_brings_once = record { alike = λ κs a x y s t p q. one_brought x y p.0 q.0 }
+
+pub test_form_once : Once test_form.Post
+test_form_once = numbered_once
+
+pub test_time_once : Once test_time.Post
+test_time_once = numbered_once
+
+pub number_of_once : (T laws copy clone clone_dict : _) → Once (number.Post T laws copy clone clone_dict)
+number_of_once T laws copy clone clone_dict = equation_once
+
+-- ---- the calls of every block: B is the block, S its states, and what follows is what the bound says of them
+
+pub block_length_once : (B : _) (S : _) (laws : _) (state_laws : _) (copy : _) (state_copy : _) (its : _) (its_dict : _) (clone : _) (clone_dict : _) (state_clone : _) (state_clone_dict : _)
+    → Once (block_state_length.Post B S laws state_laws copy state_copy its its_dict clone clone_dict state_clone state_clone_dict)
+block_length_once B S laws state_laws copy state_copy its its_dict clone clone_dict state_clone state_clone_dict = equation_once
+
+pub block_form_once : (B : _) (S : _) (laws : _) (state_laws : _) (copy : _) (state_copy : _) (its : _) (its_dict : _) (clone : _) (clone_dict : _) (state_clone : _) (state_clone_dict : _)
+    → Once (block_test_form.Post B S laws state_laws copy state_copy its its_dict clone clone_dict state_clone state_clone_dict)
+block_form_once B S laws state_laws copy state_copy its its_dict clone clone_dict state_clone state_clone_dict = numbered_once
+
+pub block_start_once : (B : _) (S : _) (laws : _) (state_laws : _) (copy : _) (state_copy : _) (its : _) (its_dict : _) (clone : _) (clone_dict : _) (state_clone : _) (state_clone_dict : _)
+    → OnceLeft (block_start.Post B S laws state_laws copy state_copy its its_dict clone clone_dict state_clone state_clone_dict) (λ κs s. s.1.0.now)
+block_start_once B S laws state_laws copy state_copy its its_dict clone clone_dict state_clone state_clone_dict = one_result
+
+pub block_decode_once : (B : _) (S : _) (laws : _) (state_laws : _) (copy : _) (state_copy : _) (its : _) (its_dict : _) (clone : _) (clone_dict : _) (state_clone : _) (state_clone_dict : _)
+    → Once (block_decode.Post B S laws state_laws copy state_copy its its_dict clone clone_dict state_clone state_clone_dict)
+block_decode_once B S laws state_laws copy state_copy its its_dict clone clone_dict state_clone state_clone_dict = first_brings_once
+
+pub block_sound_once : (B : _) (S : _) (laws : _) (state_laws : _) (copy : _) (state_copy : _) (its : _) (its_dict : _) (clone : _) (clone_dict : _) (state_clone : _) (state_clone_dict : _)
+    → Once (block_sound.Post B S laws state_laws copy state_copy its its_dict clone clone_dict state_clone state_clone_dict)
+block_sound_once B S laws state_laws copy state_copy its its_dict clone clone_dict state_clone state_clone_dict = equation_once
+
+pub block_admit_once : (B : _) (S : _) (laws : _) (state_laws : _) (copy : _) (state_copy : _) (its : _) (its_dict : _) (clone : _) (clone_dict : _) (state_clone : _) (state_clone_dict : _)
+    → Once (block_admit.Post B S laws state_laws copy state_copy its its_dict clone clone_dict state_clone state_clone_dict)
+block_admit_once B S laws state_laws copy state_copy its its_dict clone clone_dict state_clone state_clone_dict = brings_once
+
+pub block_emit_once : (B : _) (S : _) (laws : _) (state_laws : _) (copy : _) (state_copy : _) (its : _) (its_dict : _) (clone : _) (clone_dict : _) (state_clone : _) (state_clone_dict : _)
+    → Once (block_emit.Post B S laws state_laws copy state_copy its its_dict clone clone_dict state_clone state_clone_dict)
+block_emit_once B S laws state_laws copy state_copy its its_dict clone clone_dict state_clone state_clone_dict = equation_once
+
+pub block_update_once : (B : _) (S : _) (laws : _) (state_laws : _) (copy : _) (state_copy : _) (its : _) (its_dict : _) (clone : _) (clone_dict : _) (state_clone : _) (state_clone_dict : _)
+    → OnceLeft (block_update.Post B S laws state_laws copy state_copy its its_dict clone clone_dict state_clone state_clone_dict) (λ κs s. s.1.1.1.0.now)
+block_update_once B S laws state_laws copy state_copy its its_dict clone clone_dict state_clone state_clone_dict = one_result
+
+pub block_tick_once : (B : _) (S : _) (laws : _) (state_laws : _) (copy : _) (state_copy : _) (its : _) (its_dict : _) (clone : _) (clone_dict : _) (state_clone : _) (state_clone_dict : _)
+    → OnceLeft (block_tick.Post B S laws state_laws copy state_copy its its_dict clone clone_dict state_clone state_clone_dict) (λ κs s. s.1.1.1.0.now)
+block_tick_once B S laws state_laws copy state_copy its its_dict clone clone_dict state_clone state_clone_dict = one_result

@@ -1,11 +1,12 @@
 -- What a call on one block answers, and the table of refusals. Definitions only.
-use Rattle.std.specs.Prelude.{ℕ, zero, suc, Bool, true, false, not, Float}
+use Rattle.std.specs.Prelude.{ℕ, ◌≡◌, zero, suc, Bool, true, false, not, Float, Result, Ok, Err, IfOk}
 use Rattle.std.specs.Float.Ieee.Scale.{finite}
 use Rattle.reals.specs.Words.{0·0}
-use Rattle.dynamics.specs.Previous.{runs_back}
+use Rattle.dynamics.specs.Previous.{runs_back, Previous}
 use Rattle.dynamics.specs.declared.call.Answer.{Answer}
 use Rattle.dynamics.specs.declared.call.Length.{Length}
-use Rattle.dynamics.specs.declared.previous.Previous.{Previous}
+use Rattle.dynamics.specs.declared.refusal.Refusal.{Refusal}
+use Rattle.dynamics.specs.declared.refusal.Refusal.TheVariants as variant
 
 -- ---- outputs: an output that a block lacks is 0.0 or false
 pub record Outputs : Type 0 where
@@ -55,6 +56,26 @@ refusal_of true true true true false state order = 5
 refusal_of true true true true true false order = 6
 refusal_of true true true true true true false = 7
 refusal_of true true true true true true true = 0
+
+-- the number of each test, by its name
+abbrev pub number : Refusal → ℕ
+number variant.Shape = 1
+number variant.Settings = 2
+number variant.Length = 3
+number variant.Space = 4
+number variant.Time = 5
+number variant.State = 6
+number variant.Order = 7
+
+-- the number of a call: 0 where it is accepted
+abbrev pub number_of : {X : Type 0} → Result X Refusal → ℕ
+number_of (Ok x) = 0
+number_of (Err r) = number r
+
+-- a call that has this number, and brings this where it is accepted
+pub record Brings {X : Type 0} (n : ℕ) (x : X) (r : Result X Refusal) : Type 0 where
+  pub number : number_of r ≡ n
+  pub value : IfOk r (λ y. y ≡ x)
 
 -- a test that a call does not make
 abbrev pub skipped : Bool

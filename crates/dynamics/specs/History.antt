@@ -1,10 +1,9 @@
 -- A block told from its history alone: the accepted ticks since the latest start or wiping tick. No region is read. Definitions only.
-use Rattle.std.specs.Prelude.{ℕ, ◌≡◌, Bool, true, cond, List, [], ◌∷◌}
+use Rattle.dynamics.specs.Previous.{Previous}
+use Rattle.std.specs.Prelude.{ℕ, ◌≡◌, Bool, true, cond, List, [], ◌∷◌, None, Some}
 use Rattle.dynamics.specs.Answer.{Outputs, silent, emitted, time_refusal, accept}
 use Rattle.dynamics.specs.Machine.{Machine, is_sound, decode_answer, tick_refusal, Tick, Call, starts, emits, updates, ticks, emit_answer, Seen, words_after, run, left_after}
 use Rattle.dynamics.specs.declared.call.Answer.{Answer}
-use Rattle.dynamics.specs.declared.previous.Previous.{Previous}
-use Rattle.dynamics.specs.declared.previous.Previous.TheVariants.{Unset, At}
 
 -- it begins with a start or with a wiping tick, and an accepted tick follows
 pub data History : Type 0 where
@@ -19,7 +18,7 @@ newest d f (wiped j) = f j
 newest d f (followed h j) = f j
 
 abbrev pub previous_in : History → Previous
-previous_in h = newest Unset (λ j. At j.time) h
+previous_in h = newest None (λ j. Some j.time) h
 
 -- What a history says of a block that never warns. k is the next tick, h what came before it: its newest tick and the older ones.
 pub record Account : Type 0 where

@@ -1,14 +1,14 @@
 -- What a block is to its calls, and the calls on a region: one account for every block. Definitions only.
-use Rattle.std.specs.Prelude.{ℕ, Bool, not, List, [], ◌∷◌, T, eqb, length, Float}
+use Rattle.std.specs.Prelude.{ℕ, ◌≡◌, Bool, true, not, List, [], ◌∷◌, T, eqb, length, Float, Result, Ok, Err}
 use Rattle.std.specs.Float.{binary64}
 use Rattle.std.specs.Float.Ieee.{fits}
 use Rattle.std.specs.Float.Ieee.Scale.{finite}
-use Rattle.dynamics.specs.Previous.{runs_back}
-use Rattle.dynamics.specs.Answer.{Outputs, silent, emitted, updated, answered, refusal_of, skipped, form_refusal, accept, length_of}
+use Rattle.dynamics.specs.Previous.{runs_back, Previous}
+use Rattle.dynamics.specs.Answer.{Outputs, number, silent, emitted, updated, answered, refusal_of, skipped, form_refusal, accept, length_of}
 use Rattle.dynamics.specs.declared.call.Answer.{Answer}
 use Rattle.dynamics.specs.declared.call.Inputs.{Inputs}
 use Rattle.dynamics.specs.declared.call.Length.{Length}
-use Rattle.dynamics.specs.declared.previous.Previous.{Previous}
+use Rattle.dynamics.specs.declared.refusal.Refusal.{Refusal}
 
 -- A block with its settings.
 pub record Machine : Type 0 where
@@ -29,6 +29,17 @@ pub record Machine : Type 0 where
 pub record Reading (S : Type 0) : Type 0 where
   pub refusal : ℕ
   pub state : S
+
+-- what each case of a decode answer stands for
+abbrev pub read_as : {S : Type 0} → S → Result S Refusal → Reading S
+read_as zeros (Ok s) = record { refusal = 0; state = s }
+read_as zeros (Err r) = record { refusal = number r; state = zeros }
+
+-- what the state of a block's words tells of them; and a sound region decodes
+pub record Told {S : Type 0} (M : Machine) (state_of : List ℕ → S) (decodes : S → Bool) (previous : S → Previous) : Type 0 where
+  pub by_decodes : (w : List ℕ) → M.decodes w ≡ decodes (state_of w)
+  pub by_previous : (w : List ℕ) → M.previous w ≡ previous (state_of w)
+  pub sound_decodes : (w : List ℕ) → M.sound w ≡ true → M.decodes w ≡ true
 
 module _ (M : Machine) where
   abbrev pub sized : List ℕ → Bool

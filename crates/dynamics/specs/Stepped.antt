@@ -1,10 +1,9 @@
--- A block whose words are a state record, and whose update is one step of it. Definitions only.
-use Rattle.std.specs.Prelude.{ℕ, Bool, false, List, Float}
-use Rattle.dynamics.specs.Previous.{sound_previous}
-use Rattle.dynamics.specs.Answer.{Outputs, accept}
-use Rattle.dynamics.specs.Machine.{Machine}
+-- A block whose words are a state record, and whose update is one step of it. Definitions, and one fact.
+use Rattle.std.specs.Prelude.{ℕ, Bool, false, List, Float, refl}
+use Rattle.dynamics.specs.Previous.{sound_previous, Previous}
+use Rattle.dynamics.specs.Answer.{Outputs}
+use Rattle.dynamics.specs.Machine.{Machine, Told}
 use Rattle.dynamics.specs.declared.call.Inputs.{Inputs}
-use Rattle.dynamics.specs.declared.previous.Previous.{Previous}
 
 -- A block with its settings, told by its states S.
 pub record Stepped (S : Type 0) : Type 0 where
@@ -35,6 +34,7 @@ stepped_machine B = record {
   after = λ w time i. B.words_of (B.advance (B.state_of w) time i);
 }
 
--- a region taken apart into an enum, by a call's number: the state, or the refusal
-unfoldable pub opened_as : {S D : Type 0} → (S → D) → (ℕ → D) → ℕ → S → D
-opened_as state refused n s = accept n (state s) (refused n)
+-- what its state tells of its words
+pub stepped_told : {S : Type 0} (B : Stepped S) → Told (stepped_machine B) B.state_of (λ s. sound_previous (B.previous s)) B.previous
+unfolding stepped_machine
+stepped_told B = record { by_decodes = λ w. refl; by_previous = λ w. refl; sound_decodes = λ w e. e }

@@ -11,11 +11,7 @@ use reals::{flag_of, real_of};
 pub fn word_at(region: &[u64], place: usize) -> u64
     ensures { result ≡ get_or region.now place 0 }
 {
-    if place < region.len() {
-        region[place]
-    } else {
-        0
-    }
+    region.get(place).copied().unwrap_or(0)
 }
 
 // The real that the word there means.
@@ -44,11 +40,7 @@ pub fn store(region: &mut [u64], words: &[u64])
     ensures { region.new ≡ stored region.old words.now }
 {
     if region.len() == words.len() {
-        let mut i = 0;
-        while i < words.len() {
-            region[i] = words[i];
-            i += 1;
-        }
+        region.copy_from_slice(words);
     }
 }
 
@@ -56,9 +48,5 @@ pub fn store(region: &mut [u64], words: &[u64])
 pub fn clear(region: &mut [u64])
     ensures { region.new ≡ replicate (length region.old) 0 }
 {
-    let mut i: usize = 0;
-    while i < region.len() {
-        region[i] = 0;
-        i += 1;
-    }
+    region.fill(0);
 }

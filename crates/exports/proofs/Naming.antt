@@ -11,17 +11,16 @@ use lib.ListN.{length, get_or, take, drop, length-drop}
 use lib.Seq.{length-take-le, get_or-take, get_or-drop}
 use Rattle.blocks.specs.Named.{named, controller_settings, names_controller, named_by}
 use Rattle.blocks.specs.declared.block.Block.{Block}
-use Rattle.blocks.specs.declared.named.Named.{Named}
-use Rattle.blocks.specs.declared.named.Named.TheVariants as block
+use Rattle.std.specs.Prelude as block
 use Rattle.blocks.proofs.Names.{above}
 use Rattle.sheet.specs.declared.row.Row.{Row}
 use Rattle.exports.specs.Calls.{by_name}
 use Rattle.exports.specs.Sheets.{settings_at, words_per_row, settings_read, row_with, row_by}
 
 -- whether words name a block
-abbrev is_block : Named → Bool
-is_block (block.Block b) = true
-is_block block.Nothing = false
+abbrev is_block : block.Option Block → Bool
+is_block (block.Some b) = true
+is_block block.None = false
 
 abbrev pub is_row : Option Row → Bool
 is_row (some r) = true
@@ -59,10 +58,10 @@ module _ (s : List ℕ) (many : controller_settings ≤ length s) where
   named_exactly (suc (suc (suc (suc (suc (suc (suc zero))))))) = given _ _ ∙ first 3 (omega arith)
   named_exactly (suc (suc (suc (suc (suc (suc (suc (suc n)))))))) = too_large (suc (suc (suc (suc (suc (suc (suc (suc n)))))))) (get_or s 0 0) _ (omega arith)
 
-row_by_lem : (w : List ℕ) (b : Named) → is_row (by_name b (λ x. some (row_with w x)) none) ≡ is_block b
+row_by_lem : (w : List ℕ) (b : block.Option Block) → is_row (by_name b (λ x. some (row_with w x)) none) ≡ is_block b
 unfolding by_name
-row_by_lem w (block.Block b) = refl
-row_by_lem w block.Nothing = refl
+row_by_lem w (block.Some b) = refl
+row_by_lem w block.None = refl
 
 pub row_exactly : (w : List ℕ) → words_per_row ≤ length w → is_row (row_by w) ≡ names_block (get_or w 0 0) (get_or w settings_at 0)
 unfolding row_by

@@ -15,8 +15,7 @@ use lib.ListN.{length, get_or, take, drop, set, length-set, length-drop, length-
 use lib.Seq.{take_at, drop_at, length-take-le, take_all, append_snoc, take-append-le, set_out, take-suc-set, drop-drop}
 use Rattle.blocks.specs.Named.{controller_settings, named_by}
 use Rattle.blocks.specs.declared.block.Block.{Block}
-use Rattle.blocks.specs.declared.named.Named.{Named}
-use Rattle.blocks.specs.declared.named.Named.TheVariants as block
+use Rattle.std.specs.Prelude as block
 use Rattle.sheet.specs.declared.row.Row.{Row}
 use Rattle.sheet.proofs.Stretches.{either}
 use Rattle.exports.specs.Calls.{by_name}
@@ -37,19 +36,19 @@ few_settings n e = rw e (go (ltb n 2) (eqb n 4) (eqb n 5) (eqb n 7))
     go false false false true = omega arith
     go false false false false = omega arith
 
-module _ (w : List ℕ) (n : ℕ) (few : n ≡ settings_read (get_or w 0 0)) {b : Named} (reads : b ≡ named_by (get_or w 0 0) (take (settings_at + n - settings_at) (drop settings_at w))) where
+module _ (w : List ℕ) (n : ℕ) (few : n ≡ settings_read (get_or w 0 0)) {b : block.Option Block} (reads : b ≡ named_by (get_or w 0 0) (take (settings_at + n - settings_at) (drop settings_at w))) where
   row_is : row_by w ≡ by_name b (λ x. some (row_with w x)) none
   unfolding row_by
   row_is =
       let cut : settings_at + n - settings_at ≡ n = omega arith in
-      sym (ap (λ (x : Named). by_name x (λ y. some (row_with w y)) none) (reads ∙ ap (λ (k : ℕ). named_by (get_or w 0 0) (take k (drop settings_at w))) (cut ∙ few)))
+      sym (ap (λ (x : block.Option Block). by_name x (λ y. some (row_with w y)) none) (reads ∙ ap (λ (k : ℕ). named_by (get_or w 0 0) (take k (drop settings_at w))) (cut ∙ few)))
 
   -- with a block, and without
-  pub row_named : {x : Block} {r : Row} → b ≡ block.Block x → r ≡ row_with w x → row_by w ≡ some r
+  pub row_named : {x : Block} {r : Row} → b ≡ block.Some x → r ≡ row_with w x → row_by w ≡ some r
   unfolding by_name
   row_named e is = rw (← is) at (rw e at row_is)
 
-  pub row_nothing : b ≡ block.Nothing → row_by w ≡ none
+  pub row_nothing : b ≡ block.None → row_by w ≡ none
   unfolding by_name
   row_nothing e = rw e at row_is
 

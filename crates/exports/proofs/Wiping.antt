@@ -7,8 +7,8 @@ use mathlib.Core.List.{List, [], ◌∷◌}
 use lib.Dec.{eqb}
 use lib.ListN.{length, get_or, take, drop}
 use Rattle.blocks.specs.Wiping.{SettingsF64}
-use Rattle.blocks.specs.declared.named.Named.{Named}
-use Rattle.blocks.specs.declared.named.Named.TheVariants as block
+use Rattle.std.specs.Prelude as block
+use Rattle.blocks.specs.declared.block.Block.{Block}
 use Rattle.blocks.proofs.Names.{settings_f64}
 use Rattle.sheet.specs.Single.{At}
 use Rattle.sheet.specs.Wiping.{WipedRow, RowRetold}
@@ -18,10 +18,10 @@ use Rattle.exports.specs.Calls.{by_name}
 use Rattle.exports.specs.Sheets.{words_per_row, row_with, row_by, below, rows_by, rows_named}
 
 -- ---- a row
-block_named : (w : List ℕ) (n : Named) (r : Row) → by_name n (λ b. some (row_with w b)) none ≡ some r → n ≡ block.Block r.block
+block_named : (w : List ℕ) (n : block.Option Block) (r : Row) → by_name n (λ b. some (row_with w b)) none ≡ some r → n ≡ block.Some r.block
 unfolding by_name
-block_named w (block.Block b) r e = ap (λ (x : Row). block.Block x.block) (some-injective (row_with w b) r e)
-block_named w block.Nothing r e = absurd (none-ne-some r e)
+block_named w (block.Some b) r e = ap (λ (x : Row). block.Some x.block) (some-injective (row_with w b) r e)
+block_named w block.None r e = absurd (none-ne-some r e)
 
 row_f64 : (w : List ℕ) (r : Row) → row_by w ≡ some r → SettingsF64 r.block
 unfolding row_by

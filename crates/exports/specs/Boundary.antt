@@ -1,8 +1,10 @@
 -- What crosses to C and Rust: words alone. Definitions only.
-use Rattle.std.specs.Prelude.{ℕ, ◌≡◌}
+use Rattle.std.specs.Prelude.{ℕ, ◌≡◌, Result, Ok, Err}
 use Rattle.reals.specs.Words.{real_of, word_of, word_of_flag}
 use Rattle.dynamics.specs.Previous.{word_of_previous}
+use Rattle.dynamics.specs.Answer.{number}
 use Rattle.dynamics.specs.declared.call.Answer.{Answer}
+use Rattle.dynamics.specs.declared.refusal.Refusal.{Refusal}
 use Rattle.dynamics.specs.declared.call.Inputs.{Inputs}
 use Rattle.dynamics.specs.declared.call.Length.{Length}
 use Rattle.controller.specs.declared.recurrence.State as controller_state
@@ -15,9 +17,6 @@ use Rattle.blocks.specs.Block.{inputs_of}
 use Rattle.blocks.specs.declared.block.Tick.{Tick}
 use Rattle.blocks.specs.declared.decoded.State.{State}
 use Rattle.blocks.specs.declared.decoded.State.TheVariants.{Controller, MovingAverage, TimerAccumulating, TrueDelay, Hold, LogicalVariablePulse}
-use Rattle.blocks.specs.declared.decoded.Decoded.{Decoded}
-use Rattle.blocks.specs.declared.decoded.Decoded.TheVariants.{Refused}
-use Rattle.blocks.specs.declared.decoded.Decoded.TheVariants as variant
 use Rattle.exports.specs.declared.boundary.AnswerWords.{AnswerWords}
 use Rattle.exports.specs.declared.boundary.LengthWords.{LengthWords}
 use Rattle.exports.specs.declared.states.StateWords.{StateWords}
@@ -75,6 +74,6 @@ state_words (Hold s) = hold_words s
 state_words (LogicalVariablePulse s) = pulse_words s
 
 -- each case of decoding: its number, and the state or zeros
-abbrev pub decoded_words : Decoded → StateWords
-decoded_words (variant.State s) = state_words s
-decoded_words (Refused n) = no_state n
+abbrev pub decoded_words : Result State Refusal → StateWords
+decoded_words (Ok s) = state_words s
+decoded_words (Err r) = no_state (number r)

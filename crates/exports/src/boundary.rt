@@ -28,15 +28,28 @@ pub struct LengthWords {
     pub length: u64,
 }
 
-// An answer in words.
-pub fn answer_words(a: Answer) -> AnswerWords
-    ensures { result ≡ answer_crossed a }
-{
-    AnswerWords {
-        refusal: a.refusal,
-        real: word_of(a.real),
-        boolean: word_of_flag(a.boolean),
-        warning: word_of_flag(a.warning),
+impl From<Answer> for AnswerWords {
+    ghost from_gives = { λ a w. w ≡ answer_crossed a };
+
+    #[tactic(auto, unfolding(crate::specs::Boundary::answer_crossed))]
+    fn from(a: Answer) -> AnswerWords {
+        AnswerWords {
+            refusal: a.refusal,
+            real: word_of(a.real),
+            boolean: word_of_flag(a.boolean),
+            warning: word_of_flag(a.warning),
+        }
+    }
+}
+
+impl From<Length> for LengthWords {
+    ghost from_gives = { λ l w. w ≡ length_words l };
+
+    fn from(l: Length) -> LengthWords {
+        LengthWords {
+            refusal: l.refusal,
+            length: l.length as u64,
+        }
     }
 }
 
@@ -44,17 +57,7 @@ pub fn answer_words(a: Answer) -> AnswerWords
 pub fn no_answer() -> AnswerWords
     ensures { result ≡ answer_crossed (silent no_block) }
 {
-    answer_words(silent(NO_BLOCK))
-}
-
-// A length in words.
-pub fn length_words(l: Length) -> LengthWords
-    ensures { result ≡ length_words l }
-{
-    LengthWords {
-        refusal: l.refusal,
-        length: l.length as u64,
-    }
+    silent(NO_BLOCK).into()
 }
 
 // What a tick brings to one block.

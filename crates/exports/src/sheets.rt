@@ -3,7 +3,7 @@ ghost use Rattle.std.specs.Prelude.{◌≤◌, ◌≡◌, length};
 ghost use Rattle.exports.specs.Sheets.{sheet_crossed, no_sheet, tick_by, words_per_row, settings_read, row_with, rows_named, Bare, Tabled, StartsBy, TicksBy};
 
 use crate::boundary::NO_BLOCK;
-use blocks::{Block, CONTROLLER_SETTINGS, Named, Tick, block_of};
+use blocks::{Block, CONTROLLER_SETTINGS, Tick, block_of};
 use reals::{real_of, word_of_flag};
 use sheet::{Row, SheetAnswer, TABLE_ROWS, Table, start, tick};
 
@@ -117,10 +117,7 @@ fn read_rows<'a>(words: &[u64], table: &'a mut Table) -> Option<&'a [Row]>
     for row in words.chunks_exact(WORDS_PER_ROW) {
         let number = row[0];
         let stop = SETTINGS_AT + settings_read(number);
-        let named = block_of(number, &row[SETTINGS_AT..stop]);
-        let Named::Block(block) = named else {
-            return None;
-        };
+        let block = block_of(number, &row[SETTINGS_AT..stop])?;
         if table.count < TABLE_ROWS {
             table.rows[table.count] = row_with(block, row);
         }

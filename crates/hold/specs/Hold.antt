@@ -1,6 +1,6 @@
 -- What `TrueFalseHold` and `TrueHoldWithReset` share: an output that lasts, its timer, and their words; and how an output lasts for a
 -- least time, as those of `TrueFalseHold` and of the variable pulse do. Definitions only.
-use Rattle.std.specs.Prelude.{ℕ, Bool, false, not, ◌&&◌, cond, List, [], ◌∷◌, get_or, Float}
+use Rattle.std.specs.Prelude.{ℕ, ◌≡◌, refl, length, Bool, false, not, ◌&&◌, cond, List, [], ◌∷◌, get_or, Float, None, Some}
 use Rattle.std.specs.Bool.{beq}
 use Rattle.std.specs.Float.Ieee.{le}
 use Rattle.reals.specs.Words.{0·0, real_of, word_of, flag_of, word_of_flag}
@@ -8,15 +8,10 @@ use Rattle.reals.specs.Arithmetic.{◌⊕◌}
 use Rattle.dynamics.specs.Previous.{previous_of, word_of_previous, gap, is_first}
 use Rattle.dynamics.specs.Leaves.{timed}
 use Rattle.dynamics.specs.Answer.{Outputs, boolean_output}
-use Rattle.dynamics.specs.Machine.{Machine, Reading}
-use Rattle.dynamics.specs.Stepped.{Stepped, stepped_machine, opened_as}
+use Rattle.dynamics.specs.Stepped.{Stepped}
 use Rattle.dynamics.specs.declared.call.Inputs.{Inputs}
 use Rattle.dynamics.specs.declared.leaf.Timed.{Timed}
-use Rattle.dynamics.specs.declared.previous.Previous.TheVariants.{Unset, At}
 use Rattle.hold.specs.declared.State.{State}
-use Rattle.hold.specs.declared.Decoded.{Decoded}
-use Rattle.hold.specs.declared.Decoded.TheVariants.{Refused}
-use Rattle.hold.specs.declared.Decoded.TheVariants as variant
 
 -- ---- the words: held, timer, previous time
 
@@ -48,7 +43,7 @@ output_and_timer least s time input =
 
 -- previous time unset; the rest zero
 abbrev pub initial : State
-initial = record { held = false; timer = 0·0; previous = Unset }
+initial = record { held = false; timer = 0·0; previous = None }
 
 -- the output of a tick is what is held after it
 abbrev pub outputs : State → Outputs
@@ -67,19 +62,11 @@ hold_of accepts advance = record {
   advance = advance;
 }
 
--- what a call does before the step is the same for every hold with these settings: this one stays as it is
-abbrev pub bare : Bool → Machine
-bare accepts = stepped_machine (hold_of accepts (λ s time i. s))
+-- a state has three words
+pub counted : (s : State) → length (words_of s) ≡ 3
+unfolding words_of
+counted s = refl
 
--- ---- a region taken apart, by the refusal number of the call
-
-abbrev pub opened : ℕ → List ℕ → Decoded
-opened n w = opened_as variant.State Refused n (state_of w)
-
--- what each case stands for: its number, and the state or the record of zeros
+-- the record of zeros, for which a refused decode stands
 abbrev pub zeros : State
-zeros = record { held = false; timer = 0·0; previous = At 0·0 }
-
-abbrev pub reads : Decoded → Reading State
-reads (variant.State s) = record { refusal = 0; state = s }
-reads (Refused n) = record { refusal = n; state = zeros }
+zeros = record { held = false; timer = 0·0; previous = Some 0·0 }

@@ -9,14 +9,13 @@ use dynamics::{Timed, is_first_tick, tick_dt};
 pub fn output_and_timer(least: f64, s: State, time: f64, input: bool) -> Timed
     ensures { result ≡ output_and_timer least s time input }
 {
-    let previous = s.previous;
-    if is_first_tick(previous) {
+    if is_first_tick(s.previous) {
         return Timed {
             y: input,
             timer: 0.0,
         };
     }
-    let timer = s.timer + tick_dt(time, previous);
+    let timer = s.timer + tick_dt(time, s.previous);
     if input == s.held {
         return Timed { y: s.held, timer };
     }

@@ -8,22 +8,21 @@ use borrow.Author.Tests.{leb-true, leb-false}
 use lib.Dec.{leb}
 use lib.ListN.{length, take}
 use lib.Seq.{take_all, length-take-le}
+use Rattle.std.specs.Prelude.{None}
 use Rattle.blocks.specs.declared.block.Block.{Block}
-use Rattle.blocks.specs.declared.named.Named.TheVariants.{Nothing}
 use Rattle.lines.specs.Lines.{first_of, later_of}
-use Rattle.lines.specs.Values.{items_of}
+use Rattle.lines.specs.Values.{items_of, words_said}
 use Rattle.lines.proofs.Items.{items_long}
-use Rattle.lines.proofs.Ticking.{tick_long}
 
 -- ---- a line too long
 
-pub first_long : (line : List ℕ) → 255 < length line → first_of line ≡ Nothing
+pub first_long : (line : List ℕ) → 255 < length line → first_of line ≡ None
 unfolding first_of
 first_long line h = rw (items_long line h)
 
-pub later_long : (b : Block) (line : List ℕ) → 255 < length line → (later_of b line).ok ≡ false
-unfolding later_of
-later_long b line h = rw (← tick_long b line h)
+pub later_long : (b : Block) (line : List ℕ) → 255 < length line → later_of b line ≡ None
+unfolding later_of words_said
+later_long b line h = rw (items_long line h)
 
 -- ---- the first 256 bytes: a line of at most 255 is all of them, and of a longer one they are too many
 

@@ -1,12 +1,9 @@
 -- The items of a line, and the words that they say. Definitions only.
-use Rattle.std.specs.Prelude.{ℕ, ◌-◌, List, [], ◌∷◌, ◌++◌, true, false, cond, length, drop, replicate, leb, eqb}
+use Rattle.std.specs.Prelude.{ℕ, ◌-◌, Option, Some, None, List, [], ◌∷◌, ◌++◌, cond, length, drop, replicate, leb, eqb}
 use Prim.Native.Char.{code}
-use Rattle.text.specs.declared.word.Item.{Item}
-use Rattle.text.specs.declared.word.Item.TheVariants.{Word, Bad}
 use Rattle.text.specs.Word.{word_item}
 use Rattle.text.specs.Items.{flag_item, type_item}
 use Rattle.text.specs.Stretches.{stretches}
-use Rattle.lines.specs.declared.values.Values.{Values}
 
 -- ---- the items of a line: what stands between its single spaces
 
@@ -21,29 +18,24 @@ items_of line = cond (leb (length line) 255) (items_from line 0) []
 -- ---- what they say
 
 -- an item of a class
-unfoldable pub item_of : ℕ → List ℕ → Item
+unfoldable pub item_of : ℕ → List ℕ → Option ℕ
 item_of class s = cond (eqb class (code "r")) (word_item s) (cond (eqb class (code "c")) (type_item s) (flag_item s))
-
--- words, or that an item is not of its class or that there are too few or too many
-pub data Words : Type 0 where
-  said : List ℕ → Words
-  malformed : Words
 
 -- an item's word, then those of the items after it
 infixr 5 ◌before◌
-abbrev pub ◌before◌ : Item → Words → Words
-Word w before said ws = said (w ∷ ws)
-Word w before malformed = malformed
-Bad before ws = malformed
+abbrev pub ◌before◌ : Option ℕ → Option (List ℕ) → Option (List ℕ)
+Some w before Some ws = Some (w ∷ ws)
+Some w before None = None
+None before ws = None
 
--- the words of items, one of each class
-unfoldable pub words_said : (classes : List ℕ) (items : List (List ℕ)) → Words
-words_said [] [] = said []
-words_said [] (i ∷ is) = malformed
-words_said (c ∷ cs) [] = malformed
+-- the words of items, one of each class; none if an item is not of its class, or there are too few or too many
+unfoldable pub words_said : (classes : List ℕ) (items : List (List ℕ)) → Option (List ℕ)
+words_said [] [] = Some []
+words_said [] (i ∷ is) = None
+words_said (c ∷ cs) [] = None
 words_said (c ∷ cs) (i ∷ is) = item_of c i before words_said cs is
 
 -- as the code has them: sixteen words, those that there are not being 0
-abbrev pub laid_out : Words → Values
-laid_out (said ws) = record { ok = true; words = ws ++ replicate (16 - length ws) 0 }
-laid_out malformed = record { ok = false; words = replicate 16 0 }
+abbrev pub laid_out : Option (List ℕ) → Option (List ℕ)
+laid_out (Some ws) = Some (ws ++ replicate (16 - length ws) 0)
+laid_out None = None

@@ -1,36 +1,25 @@
 // A later line: a time, then the block's inputs.
 ghost use Rattle.std.specs.Prelude.{◌≡◌};
-ghost use Rattle.lines.specs.Values.{words_said, laid_out, items_of};
 ghost use Rattle.lines.specs.Lines.{tick_classes, tick_with, later_of};
 
 use crate::first::LONGEST;
-use crate::values::{Values, no_values, read_values};
+use crate::values::read_values;
 use blocks::{Block, Tick};
 use reals::real_of;
 
-// A tick, or that the line is malformed; its tick is of zeros then.
-#[derive(Clone, Copy)]
-pub struct Later {
-    pub ok: bool,
-    pub tick: Tick,
-}
-
-// The words of a later line: the time, then the inputs.
-fn read_tick(block: Block, line: &[u8]) -> Values
-    ensures { result ≡ laid_out (words_said (tick_classes block) (items_of line.now)) }
+// The classes of a later line's items: the time, then the inputs.
+fn tick_classes(block: Block) -> &'static [u8]
+    ensures { result.now ≡ tick_classes block }
 {
-    if LONGEST < line.len() {
-        return no_values();
-    }
     match block {
-        Block::Pid(_) => read_values(line, 0, b"rrr"),
-        Block::PidWithReset(_) => read_values(line, 0, b"rrrb"),
-        Block::MovingAverage { .. } => read_values(line, 0, b"rr"),
-        Block::TimerAccumulating { .. } => read_values(line, 0, b"rbb"),
-        Block::TrueDelay { .. } => read_values(line, 0, b"rb"),
-        Block::TrueFalseHold { .. } => read_values(line, 0, b"rb"),
-        Block::TrueHoldWithReset { .. } => read_values(line, 0, b"rbb"),
-        Block::LogicalVariablePulse { .. } => read_values(line, 0, b"rr"),
+        Block::Pid(_) => b"rrr",
+        Block::PidWithReset(_) => b"rrrb",
+        Block::MovingAverage { .. } => b"rr",
+        Block::TimerAccumulating { .. } => b"rbb",
+        Block::TrueDelay { .. } => b"rb",
+        Block::TrueFalseHold { .. } => b"rb",
+        Block::TrueHoldWithReset { .. } => b"rbb",
+        Block::LogicalVariablePulse { .. } => b"rr",
     }
 }
 
@@ -46,13 +35,14 @@ fn tick_with(words: [u64; 16]) -> Tick
     }
 }
 
-// What a later line brings.
-pub fn later_line(block: Block, line: &[u8]) -> Later
+// The tick that a later line brings; none if the line is malformed.
+#[tactic(auto, using(crate::proofs::Ticking::later_heard, crate::proofs::Kept::later_long))]
+pub fn later_line(block: Block, line: &[u8]) -> Option<Tick>
     ensures { result ≡ later_of block line.now }
 {
-    let values = read_tick(block, line);
-    let words = values.words;
-    let ok = values.ok;
-    let tick = tick_with(words);
-    Later { ok, tick }
+    if LONGEST < line.len() {
+        return None;
+    }
+    let words = read_values(line, 0, tick_classes(block))?;
+    Some(tick_with(words))
 }

@@ -6,4 +6,4 @@ mod later;
 mod values;
 
 pub use first::first_line;
-pub use later::{Later, later_line};
+pub use later::later_line;

@@ -1,62 +1,40 @@
 // The items of a line as words.
 ghost use Rattle.std.specs.Prelude.{◌≡◌, ◌≤◌, length};
-ghost use Rattle.lines.specs.Values.{item_of, items_from, malformed, words_said, laid_out};
+ghost use Rattle.lines.specs.Values.{item_of, items_from, words_said, laid_out};
 
-use text::{Item, end_of, read_flag, read_type, read_word};
+use text::{end_of, read_flag, read_type, read_word};
 
-// Whether the items are as asked, and their words, those that there are not being 0.
-#[derive(Clone, Copy)]
-pub struct Values {
-    pub ok: bool,
-    pub words: [u64; 16],
-}
-
-// An item of a class: r a real, c a controller type, b a boolean.
-fn read_item(class: u8, s: &[u8]) -> Item
+// An item of a class: r a real, c a controller type, b a boolean. Classes stay bytes: the table of forms has them so (`forms`), and a
+// line's classes read as one word, b"crrb", where a list of an enum's names would not.
+#[tactic(auto, unfolding(crate::specs::Values::item_of))]
+fn read_item(class: u8, s: &[u8]) -> Option<u64>
     ensures { result ≡ item_of class s.now }
 {
-    if class == b'r' {
-        return read_word(s);
-    }
-    if class == b'c' {
-        return read_type(s);
-    }
-    read_flag(s)
-}
-
-// What a malformed line says.
-pub(crate) fn no_values() -> Values
-    ensures { result ≡ laid_out malformed }
-{
-    Values {
-        ok: false,
-        words: [0u64; 16],
+    match class {
+        b'r' => read_word(s),
+        b'c' => read_type(s),
+        _ => read_flag(s),
     }
 }
 
-// The items of a line from `at` on, one of each class and no more.
-pub(crate) fn read_values(line: &[u8], at: usize, classes: &[u8]) -> Values
+// The words of the items of a line from `at` on, one of each class and no more. Those that there are not are 0.
+#[tactic(auto, using(crate::proofs::Words::filled_zeros, crate::proofs::Words::filled_short, crate::proofs::Words::filled_word, crate::proofs::Words::filled_bad, crate::proofs::Words::filled_over, crate::proofs::Words::filled_end))]
+pub(crate) fn read_values(line: &[u8], at: usize, classes: &[u8]) -> Option<[u64; 16]>
     requires { length classes.now ≤ 16 }
     ensures { result ≡ laid_out (words_said classes.now (items_from line.now at)) }
 {
-    let mut words = [0u64; 16];
+    let mut words = [0; 16];
     let mut next = at;
-    let mut j = 0;
-    while j < classes.len() {
+    for (j, class) in classes.iter().enumerate() {
         if line.len() < next {
-            return no_values();
+            return None;
         }
         let end = end_of(line, next, b' ');
-        let item = read_item(classes[j], &line[next..end]);
-        let Item::Word(w) = item else {
-            return no_values();
-        };
-        words[j] = w;
+        words[j] = read_item(*class, &line[next..end])?;
         next = end + 1;
-        j += 1;
     }
     if next <= line.len() {
-        return no_values();
+        return None;
     }
-    Values { ok: true, words }
+    Some(words)
 }

@@ -4,4 +4,3 @@ pub mod Decoding
 pub mod Limits
 pub mod Holding
 pub mod Corners
-pub mod OneResult

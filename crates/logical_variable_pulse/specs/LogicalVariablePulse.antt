@@ -1,5 +1,5 @@
 -- `LogicalVariablePulse`: in each period the output is true for the share u of it, and each of its two values lasts for a least time. Definitions only.
-use Rattle.std.specs.Prelude.{ℕ, ◌^◌, Bool, true, false, not, ◌&&◌, ◌||◌, cond, List, [], ◌∷◌, get_or, Float}
+use Rattle.std.specs.Prelude.{ℕ, ◌≡◌, refl, length, ◌^◌, Bool, true, false, not, ◌&&◌, ◌||◌, cond, List, [], ◌∷◌, get_or, Float, None, Some}
 use Rattle.std.specs.Float.Ieee.{lt, le}
 use Rattle.std.specs.Float.Ieee.Scale.{finite}
 use Rattle.reals.specs.Words.{nearest, 0·0, 1·0, real_of, word_of, flag_of, word_of_flag}
@@ -8,18 +8,14 @@ use Rattle.reals.specs.Rounding.{magnitude, downward, upward, whole}
 use Rattle.dynamics.specs.Previous.{previous_of, word_of_previous, is_first}
 use Rattle.dynamics.specs.Leaves.{raised_to}
 use Rattle.dynamics.specs.Answer.{Outputs, boolean_output}
-use Rattle.dynamics.specs.Machine.{Machine, Reading}
-use Rattle.dynamics.specs.Stepped.{Stepped, stepped_machine, opened_as}
+use Rattle.dynamics.specs.Machine.{Machine}
+use Rattle.dynamics.specs.Stepped.{Stepped, stepped_machine}
 use Rattle.dynamics.specs.declared.call.Inputs.{Inputs}
 use Rattle.dynamics.specs.declared.leaf.Timed.{Timed}
-use Rattle.dynamics.specs.declared.previous.Previous.TheVariants.{Unset, At}
 use Rattle.hold.specs.Hold.{output_and_timer}
 use Rattle.hold.specs.declared.State as hold_state
 use Rattle.logical_variable_pulse.specs.declared.LogicalVariablePulse.{LogicalVariablePulse}
 use Rattle.logical_variable_pulse.specs.declared.state.State.{State}
-use Rattle.logical_variable_pulse.specs.declared.state.Decoded.{Decoded}
-use Rattle.logical_variable_pulse.specs.declared.state.Decoded.TheVariants.{Refused}
-use Rattle.logical_variable_pulse.specs.declared.state.Decoded.TheVariants as variant
 
 -- ---- the sampled width and the cycle's anchor
 
@@ -86,7 +82,7 @@ next b s time u =
     let changed = width_changed s.sampled_u u b.delta_u in
     let t0 = next_t0 s time changed in
     let o = held_output_and_timer (cycle_output time u t0 (adjusted_period b)) s time b.min_true_false_hold in
-    record { sampled_u = next_sampled_u s u changed; t0 = t0; held = o.y; timer = o.timer; previous = At time }
+    record { sampled_u = next_sampled_u s u changed; t0 = t0; held = o.y; timer = o.timer; previous = Some time }
 
 -- a tick's input is its first word
 unfoldable pub advance : LogicalVariablePulse → State → Float → Inputs → State
@@ -126,7 +122,7 @@ settings_accepted b =
 
 -- previous time unset; the rest zero
 abbrev pub initial : State
-initial = record { sampled_u = 0·0; t0 = 0·0; held = false; timer = 0·0; previous = Unset }
+initial = record { sampled_u = 0·0; t0 = 0·0; held = false; timer = 0·0; previous = None }
 
 -- the output of a tick is what is held after it
 abbrev pub outputs : State → Outputs
@@ -147,15 +143,11 @@ block b = record {
 abbrev pub machine : LogicalVariablePulse → Machine
 machine b = stepped_machine (block b)
 
--- ---- a region taken apart, by the refusal number of the call
+-- a state has as many words
+pub counted : (b : LogicalVariablePulse) (s : State) → length ((block b).words_of s) ≡ (block b).size
+unfolding words_of
+counted b s = refl
 
-abbrev pub opened : ℕ → List ℕ → Decoded
-opened n w = opened_as variant.State Refused n (state_of w)
-
--- what each case stands for: its number, and the state or the record of zeros
+-- the record of zeros, for which a refused decode stands
 abbrev pub zeros : State
-zeros = record { sampled_u = 0·0; t0 = 0·0; held = false; timer = 0·0; previous = At 0·0 }
-
-abbrev pub reads : Decoded → Reading State
-reads (variant.State s) = record { refusal = 0; state = s }
-reads (Refused n) = record { refusal = n; state = zeros }
+zeros = record { sampled_u = 0·0; t0 = 0·0; held = false; timer = 0·0; previous = Some 0·0 }

@@ -4,7 +4,7 @@ ghost use Rattle.logical_variable_pulse.specs.LogicalVariablePulse.{width_change
 
 use crate::LogicalVariablePulse;
 use crate::state::State;
-use dynamics::{Inputs, Previous, Timed, is_first_tick, raised_to};
+use dynamics::{Inputs, Timed, is_first_tick, raised_to};
 use hold::output_and_timer;
 use reals::{absolute, ceil, floor, is_finite, real_of};
 
@@ -35,8 +35,7 @@ fn next_sampled_u(s: State, u: f64, changed: bool) -> f64
 fn next_t0(s: State, time: f64, changed: bool) -> f64
     ensures { result ≡ next_t0 s time changed }
 {
-    let previous = s.previous;
-    if is_first_tick(previous) | changed {
+    if is_first_tick(s.previous) | changed {
         return time;
     }
     s.t0
@@ -90,17 +89,16 @@ fn cycle_output(time: f64, u: f64, t0: f64, period: f64) -> bool
 fn held_output_and_timer(cycle_y: bool, s: State, time: f64, min_hold: f64) -> Timed
     ensures { result ≡ held_output_and_timer cycle_y s time min_hold }
 {
-    let previous = s.previous;
     let held = hold::State {
         held: s.held,
         timer: s.timer,
-        previous,
+        previous: s.previous,
     };
     output_and_timer(min_hold, held, time, cycle_y)
 }
 
 // The state after this tick; it holds the output.
-pub(crate) fn step(settings: LogicalVariablePulse, s: State, time: f64, inputs: Inputs) -> State
+pub(crate) fn advance(settings: LogicalVariablePulse, s: State, time: f64, inputs: Inputs) -> State
     ensures { result ≡ advance settings s time inputs }
 {
     let u = real_of(inputs.first);
@@ -113,6 +111,6 @@ pub(crate) fn step(settings: LogicalVariablePulse, s: State, time: f64, inputs: 
         t0,
         held: timed.y,
         timer: timed.timer,
-        previous: Previous::At(time),
+        previous: Some(time),
     }
 }

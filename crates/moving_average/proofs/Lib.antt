@@ -9,4 +9,3 @@ pub mod Steps
 pub mod Rules
 pub mod Sounds
 pub mod Disorder
-pub mod OneResult

@@ -1,4 +1,5 @@
 -- What an accepted tick leaves, as document 01 says it: the length, the start time's word, the coalesced word and the warning; and that it decodes. Assumes nothing.
+use Rattle.std.specs.Prelude.{Some}
 use mathlib.Core.Path.{◌≡◌, refl, sym, ap, ◌∙◌}
 use mathlib.Core.Bool.{Bool, true, false, not, ◌&&◌}
 use mathlib.Core.List.{List}
@@ -11,7 +12,6 @@ use lib.Ieee.{Float, binary64, fits}
 use Rattle.reals.specs.Words.{real_of}
 use Rattle.dynamics.specs.Previous.{is_first, previous_of}
 use Rattle.dynamics.specs.Answer.{refusal_of}
-use Rattle.dynamics.specs.declared.previous.Previous.TheVariants.{At}
 use Rattle.dynamics.specs.Leaves.{rising}
 use Rattle.dynamics.specs.Machine.{decode_refusal, tick_refusal}
 use Rattle.dynamics.specs.declared.call.Inputs.{Inputs}
@@ -69,7 +69,7 @@ module _ (b : MovingAverage) (time : Float) (i : Inputs) (w : List ℕ) (ok : ti
   warning_exactly = turned (get_or w 5 0) (place_at (geometry_of b.delta) w (state_of w) time).coalesced ∙ ap (λ (n : ℕ). eqb (get_or w 5 0) 0 && eqb n 1) (sym coalesced_word)
 
   -- what it leaves decodes: the previous time is this tick's, head and count are the step's, within the capacity
-  pub previous_after : T (fits binary64 time) → (state_of left).previous ≡ At time
+  pub previous_after : T (fits binary64 time) → (state_of left).previous ≡ Some time
   unfolding machine_for after_of step_of state_of
   previous_after f = ap previous_of (written_front w step step_holds 2 (omega arith)) ∙ previous_back time f
 

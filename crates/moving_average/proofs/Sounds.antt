@@ -11,8 +11,7 @@ use lib.Ieee.{Float, binary64, fits}
 use Rattle.reals.specs.Words.{real_of}
 use Rattle.reals.proofs.Values.{both, both_pass}
 use Rattle.reals.proofs.Words.{real_word}
-use Rattle.dynamics.specs.Previous.{previous_of, sound_previous, runs_back}
-use Rattle.dynamics.specs.declared.previous.Previous.{Previous}
+use Rattle.dynamics.specs.Previous.{previous_of, sound_previous, runs_back, Previous}
 use Rattle.dynamics.specs.Machine.{decode_refusal, is_sound, tick_refusal}
 use Rattle.dynamics.specs.Sound.{StaysSound}
 use Rattle.dynamics.specs.declared.call.Inputs.{Inputs}

@@ -12,25 +12,21 @@ use Rattle.dynamics.specs.Previous.{is_first}
 use Rattle.dynamics.specs.Leaves.{rising}
 use Rattle.dynamics.specs.Answer.{Outputs, emitted, updated, answered, real_output}
 use Rattle.dynamics.specs.Region.{Gives}
-use Rattle.dynamics.specs.Machine.{tick_refusal, emit_answer, update_answer, updated_words, tick_answer}
+use Rattle.dynamics.specs.Machine.{tick_refusal}
 use Rattle.dynamics.specs.declared.call.Answer.{Answer}
 use Rattle.dynamics.specs.declared.call.Inputs.{Inputs}
-use Rattle.dynamics.proofs.Calls.{emit_accepted, update_accepted, tick_accepted}
-use Rattle.dynamics.proofs.Opening.{ok, here}
 use Rattle.window.specs.Geometry.{geometry_of}
 use Rattle.window.specs.declared.ring.RingGeometry.{RingGeometry}
 use Rattle.moving_average.specs.Ring.{Holds}
 use Rattle.moving_average.specs.Average.{pruned, place_of, written}
-use Rattle.moving_average.specs.MovingAverage.{state_of, ring_of, mu_now, output_of, ring_at, place_at, warning_of, start_word, latch, step_of, after_of, machine_for, machine, opened}
+use Rattle.moving_average.specs.MovingAverage.{state_of, ring_of, mu_now, output_of, ring_at, place_at, warning_of, start_word, latch, step_of, after_of, machine_for, machine}
 use Rattle.moving_average.specs.declared.MovingAverage.{MovingAverage}
 use Rattle.moving_average.specs.declared.ring.Ring.{Ring}
 use Rattle.moving_average.specs.declared.store.Place.{Place}
 use Rattle.moving_average.specs.declared.state.State.{State}
-use Rattle.moving_average.specs.declared.state.Decoded.{Decoded}
-use Rattle.moving_average.specs.declared.state.Decoded.TheVariants as variant
 use Rattle.moving_average.proofs.Walks.{pruned_holds}
 use Rattle.moving_average.proofs.Stores.{place_last}
-use Rattle.moving_average.proofs.Decoding.{decoded, holds}
+use Rattle.moving_average.proofs.Decoding.{holds}
 
 -- ---- an update's step: the ring pruned, the point's place in it, the words written
 module _ (g : RingGeometry) (w : List ℕ) (s : State) (t : Float) {all : Ring} (whole : all ≡ ring_of s g.capacity) (h : Holds w (ring_of s g.capacity)) where
@@ -64,17 +60,11 @@ module _ (g : RingGeometry) (w : List ℕ) (s : State) (t : Float) {all : Ring} 
         unfolding after_of step_of
         advanced mu x y z c l = record { answers = is_warning; leaves = rw (x, y, z, c, is_warning, is_place, is_ring) at l }
 
--- ---- the calls, once the region is opened and the state taken out
+-- ---- an accepted tick on the state that was read
 module _ (b : MovingAverage) (time : Float) (i : Inputs) (w : List ℕ) {g : RingGeometry} (shaped : g ≡ geometry_of b.delta)
-    {d : Decoded} (met : d ≡ opened (tick_refusal (machine b) time w) w) {s : State} (is : d ≡ variant.State s) where
-  good : 0 ≡ tick_refusal (machine b) time w
-  good = ok decoded (machine b) state_of time i w met is
-
-  same : s ≡ state_of w
-  same = here decoded (machine b) state_of time i w met is
-
+    (good : tick_refusal (machine b) time w ≡ 0) {s : State} (same : s ≡ state_of w) where
   pub ring_stands : Holds w (ring_of s g.capacity)
-  ring_stands = rw (same, shaped) (holds b time i w (sym good))
+  ring_stands = rw (same, shaped) (holds b time i w good)
 
   module _ {u mu : Float} (hears : u ≡ real_of i.first) (sum : mu ≡ mu_now s time u) where
     total : mu ≡ mu_now (state_of w) time (real_of i.first)
@@ -85,8 +75,8 @@ module _ (b : MovingAverage) (time : Float) (i : Inputs) (w : List ℕ) {g : Rin
       unfolding machine_for
       emits = ap real_output (rw (total, same, shaped) at mean)
 
-      pub emit_then : {x : Answer} → x ≡ emitted (real_output y) → x ≡ emit_answer (machine b) time i w
-      emit_then x = emit_accepted (machine b) time i w good (x ∙ ap (λ (o : Outputs). emitted o) emits)
+      pub emitted_by : {x : Answer} → x ≡ emitted (real_output y) → x ≡ emitted ((machine b).output w time i)
+      emitted_by x = x ∙ ap (λ (o : Outputs). emitted o) emits
 
     module _ {warning : Bool} {w' : List ℕ} (step : Gives (warning_of g w s time) (after_of g w s time mu) warning w') where
       warns : warning ≡ (machine b).warns w time i
@@ -97,9 +87,12 @@ module _ (b : MovingAverage) (time : Float) (i : Inputs) (w : List ℕ) {g : Rin
       unfolding machine_for
       leaves = let e = step.leaves in rw (total, same, shaped) at e
 
-      pub update_then : {x : Answer} → x ≡ updated warning → Gives (update_answer (machine b) time i w) (updated_words (machine b) time i w) x w'
-      update_then x = update_accepted (machine b) time i w good (rw warns at x) leaves
+      pub updated_by : {x : Answer} → x ≡ updated warning → Gives (updated ((machine b).warns w time i)) ((machine b).after w time i) x w'
+      updated_by x = record { answers = rw warns at x; leaves = leaves }
 
-      pub tick_then : {y : Float} → y ≡ output_of g w s time mu → {x : Answer} → x ≡ answered (real_output y) warning
-          → Gives (tick_answer (machine b) time i w) (updated_words (machine b) time i w) x w'
-      tick_then mean x = tick_accepted (machine b) time i w good (x ∙ ap (λ (o : Outputs). answered o warning) (emits mean) ∙ ap (λ (q : Bool). answered ((machine b).output w time i) q) warns) leaves
+      pub ticked_by : {y : Float} → y ≡ output_of g w s time mu → {x : Answer} → x ≡ answered (real_output y) warning
+          → Gives (answered ((machine b).output w time i) ((machine b).warns w time i)) ((machine b).after w time i) x w'
+      ticked_by mean x = record {
+        answers = x ∙ ap (λ (o : Outputs). answered o warning) (emits mean) ∙ ap (λ (q : Bool). answered ((machine b).output w time i) q) warns;
+        leaves = leaves;
+      }

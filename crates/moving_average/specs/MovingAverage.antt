@@ -1,14 +1,12 @@
 -- `MovingAverage` over a region. Definitions only.
-use Rattle.std.specs.Prelude.{◌≡◌, Bool, false, ◌&&◌, cond, List, ◌∷◌, ℕ, ◌+◌, ◌*◌, leb, ltb, get_or, replicate, Float}
+use Rattle.std.specs.Prelude.{◌≡◌, refl, Bool, true, false, ◌&&◌, cond, List, ◌∷◌, ℕ, ◌+◌, ◌*◌, leb, ltb, get_or, replicate, Float, Some}
 use Rattle.std.specs.Float.Ieee.Scale.{finite}
 use Rattle.reals.specs.Words.{0·0, real_of, word_of, flag_of}
 use Rattle.reals.specs.Arithmetic.{◌⊖◌, ◌⊘◌}
 use Rattle.dynamics.specs.Previous.{unset, previous_of, sound_previous, is_first, gap}
 use Rattle.dynamics.specs.Leaves.{accumulated, rising}
 use Rattle.dynamics.specs.Answer.{real_output}
-use Rattle.dynamics.specs.Machine.{Machine, decode_refusal, Reading}
-use Rattle.dynamics.specs.Stepped.{opened_as}
-use Rattle.dynamics.specs.declared.previous.Previous.TheVariants.{At}
+use Rattle.dynamics.specs.Machine.{Machine, Told, decode_refusal}
 use Rattle.window.specs.Geometry.{geometry_of}
 use Rattle.window.specs.Mean.{divisor}
 use Rattle.window.specs.Order.{Ordered, is_ordered}
@@ -20,9 +18,6 @@ use Rattle.moving_average.specs.declared.ring.Ring.{Ring}
 use Rattle.moving_average.specs.declared.store.Place.{Place}
 use Rattle.moving_average.specs.declared.store.Step.{Step}
 use Rattle.moving_average.specs.declared.state.State.{State}
-use Rattle.moving_average.specs.declared.state.Decoded.{Decoded}
-use Rattle.moving_average.specs.declared.state.Decoded.TheVariants.{Refused}
-use Rattle.moving_average.specs.declared.state.Decoded.TheVariants as variant
 
 -- ---- the words: integral, start time, previous time, head, count, coalesced, then the ring
 
@@ -124,15 +119,15 @@ pub record Sound (b : MovingAverage) (w : List ℕ) : Type 0 where
   pub decodes : decode_refusal (machine b) w ≡ 0
   pub ordered : PointsOrdered b w
 
--- ---- a region taken apart, by the refusal number of the call; the ring stays in the region
+-- what its state tells of its words
+pub told : (b : MovingAverage) → Told (machine b) state_of (λ s. decodable s (geometry_of b.delta).capacity) (λ s. s.previous)
+unfolding machine_for
+told b = record { by_decodes = λ w. refl; by_previous = λ w. refl; sound_decodes = λ w. first _ _ }
+  where
+    first : (p q : Bool) → p && q ≡ true → p ≡ true
+    first true q e = refl
+    first false q e = e
 
-abbrev pub opened : ℕ → List ℕ → Decoded
-opened n w = opened_as variant.State Refused n (state_of w)
-
--- what each case stands for: its number, and the state or the record of zeros
+-- the record of zeros, for which a refused decode stands
 abbrev pub zeros : State
-zeros = record { mu = 0·0; t_start = 0·0; previous = At 0·0; head = 0; count = 0; coalesced = false }
-
-abbrev pub reads : Decoded → Reading State
-reads (variant.State s) = record { refusal = 0; state = s }
-reads (Refused n) = record { refusal = n; state = zeros }
+zeros = record { mu = 0·0; t_start = 0·0; previous = Some 0·0; head = 0; count = 0; coalesced = false }

@@ -1,6 +1,6 @@
 // The words ahead of the ring: what they mean, and which of them decode.
 ghost use Rattle.std.specs.Prelude.{◌≡◌};
-ghost use Rattle.moving_average.specs.MovingAverage.{state_of, ring_of, decodable, reads};
+ghost use Rattle.moving_average.specs.MovingAverage.{state_of, ring_of, decodable};
 
 use crate::ring::Ring;
 use dynamics::{Previous, flag_at, previous_at, previous_sound, real_at, word_at};
@@ -15,23 +15,6 @@ pub struct State {
     pub head: usize,
     pub count: usize,
     pub coalesced: bool,
-}
-
-// A region taken apart: its state, or why it has none.
-#[derive(Clone, Copy)]
-pub enum Decoded {
-    State(State),
-    Refused(u64),
-}
-
-// The refusal number; 0 for a state.
-pub fn number_of(d: Decoded) -> u64
-    ensures { result ≡ (reads d).refusal }
-{
-    match d {
-        Decoded::State(_) => 0,
-        Decoded::Refused(n) => n,
-    }
 }
 
 // What a region's first words mean.
@@ -52,8 +35,7 @@ pub(crate) fn state_of(region: &[u64]) -> State
 pub(crate) fn decodes(s: State, capacity: usize) -> bool
     ensures { result ≡ decodable s capacity }
 {
-    let previous = s.previous;
-    previous_sound(previous) & (s.head < capacity) & (s.count <= capacity)
+    previous_sound(s.previous) & (s.head < capacity) & (s.count <= capacity)
 }
 
 // Where the ring of such a state stands.

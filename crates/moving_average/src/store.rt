@@ -1,10 +1,9 @@
 // A tick's point is stored: old points expire, the new one takes its place.
 ghost use Rattle.std.specs.Prelude.{◌≡◌, ◌<◌, ◌≤◌, eqb};
-ghost use Rattle.moving_average.specs.Ring.{Stands, Holds};
+ghost use Rattle.moving_average.specs.Ring.{Holds};
 ghost use Rattle.moving_average.specs.Average.{pruned, is_crowded, after, over, place_of, written};
 
-use crate::ring::{Ring, mu_place, slot, time_at, time_place, time_word};
-use crate::walk::expired;
+use crate::ring::{Points, Ring};
 use reals::word_of;
 
 // Where a tick's point goes: its position, the count then, and whether it takes the place of another time's point.
@@ -26,56 +25,75 @@ pub struct Step {
     pub coalesced: u64,
 }
 
-// The ring without the points that no window reaches any more.
-pub(crate) fn prune(region: &[u64], ring: Ring, cutoff: f64) -> Ring
-    requires { Holds region.now ring }
-    ensures { result ≡ pruned region.now ring cutoff }
-{
-    let gone = expired(region, ring, cutoff);
-    Ring {
-        capacity: ring.capacity,
-        head: slot(ring, gone),
-        count: ring.count - gone,
+impl<'a> Points<'a> {
+    // The ring without the points that no window reaches any more.
+    #[tactic(auto, using(crate::proofs::Walks::expired_most), unfolding(crate::specs::Average::pruned))]
+    pub(crate) fn pruned(&self, cutoff: f64) -> Ring
+        ensures { result ≡ pruned self.now.region.now self.now.ring cutoff }
+    {
+        let gone = self.expired(cutoff);
+        Ring {
+            capacity: self.ring.capacity,
+            head: self.slot(gone),
+            count: self.ring.count - gone,
+        }
     }
-}
 
-// After the last point.
-fn append(ring: Ring) -> Place
-    requires { Stands ring }
-    ensures { result ≡ after ring }
-{
-    Place {
-        position: ring.count,
-        count: ring.count + 1,
-        coalesced: false,
+    // After the last point.
+    fn after_last(&self) -> Place
+        ensures { result ≡ after self.now.ring }
+    {
+        Place {
+            position: self.ring.count,
+            count: self.ring.count + 1,
+            coalesced: false,
+        }
     }
-}
 
-// In the last point's place.
-fn overwrite(ring: Ring, coalesced: bool) -> Place
-    requires { 0 < ring.count }
-    ensures { result ≡ over ring coalesced }
-{
-    Place {
-        position: ring.count - 1,
-        count: ring.count,
-        coalesced,
+    // In the last point's place.
+    fn over_last(&self, coalesced: bool) -> Place
+        requires { 0 < self.now.ring.count }
+        ensures { result ≡ over self.now.ring coalesced }
+    {
+        Place {
+            position: self.ring.count - 1,
+            count: self.ring.count,
+            coalesced,
+        }
     }
-}
 
-// The last point but one is closer than the history resolves, or no slot is free.
-fn crowded(region: &[u64], ring: Ring, resolution: f64, t: f64) -> bool
-    requires { Holds region.now ring }
-    ensures { result ≡ is_crowded region.now ring resolution t }
-{
-    let count = ring.count;
-    if ring.capacity <= count {
-        return true;
+    // The last point but one is closer than the history resolves, or no slot is free.
+    #[tactic(auto, unfolding(crate::specs::Average::is_crowded))]
+    fn is_crowded(&self, resolution: f64, t: f64) -> bool
+        ensures { result ≡ is_crowded self.now.region.now self.now.ring resolution t }
+    {
+        let count = self.ring.count;
+        if self.ring.capacity <= count {
+            return true;
+        }
+        if count < 2 {
+            return false;
+        }
+        t - self.time_at(count - 2) < 2.0 * resolution
     }
-    if count < 2 {
-        return false;
+
+    // The place of a point at t.
+    #[tactic(auto, unfolding(crate::specs::Average::place_of))]
+    pub(crate) fn place_for(&self, resolution: f64, t: f64) -> Place
+        ensures { result ≡ place_of self.now.region.now self.now.ring resolution t }
+    {
+        let count = self.ring.count;
+        if count == 0 {
+            return self.after_last();
+        }
+        if same_time(self.time_word(count - 1), word_of(t)) {
+            return self.over_last(false);
+        }
+        if self.is_crowded(resolution, t) {
+            return self.over_last(true);
+        }
+        self.after_last()
     }
-    t - time_at(region, ring, count - 2) < 2.0 * resolution
 }
 
 // Whether two stored times are the same. Their bits decide, so -0.0 is another time than 0.0.
@@ -85,39 +103,25 @@ fn same_time(a: u64, b: u64) -> bool
     a == b
 }
 
-// The place of a point at t.
-pub(crate) fn place_for(region: &[u64], ring: Ring, resolution: f64, t: f64) -> Place
-    requires { Holds region.now ring }
-    ensures { result ≡ place_of region.now ring resolution t }
-{
-    let count = ring.count;
-    if count == 0 {
-        return append(ring);
+impl Step {
+    // Writes the first six words, and the two of the tick's point.
+    pub(crate) fn write(self, region: &mut [u64])
+        requires { Holds region.old self.ring × (self.place.position ≤ self.ring.capacity) }
+        ensures { region.new ≡ written region.old self }
+    {
+        let points = Points {
+            region,
+            ring: self.ring,
+        };
+        let time_at = points.time_place(self.place.position);
+        let mu_at = points.mu_place(self.place.position);
+        region[0] = self.mu;
+        region[1] = self.t_start;
+        region[2] = self.time;
+        region[3] = self.ring.head as u64;
+        region[4] = self.place.count as u64;
+        region[5] = self.coalesced;
+        region[time_at] = self.time;
+        region[mu_at] = self.mu;
     }
-    if same_time(time_word(region, ring, count - 1), word_of(t)) {
-        return overwrite(ring, false);
-    }
-    if crowded(region, ring, resolution, t) {
-        return overwrite(ring, true);
-    }
-    append(ring)
-}
-
-// The first six words, and the two of the tick's point.
-pub(crate) fn write(region: &mut [u64], step: Step)
-    requires { Holds region.old step.ring × (step.place.position ≤ step.ring.capacity) }
-    ensures { region.new ≡ written region.old step }
-{
-    let ring = step.ring;
-    let place = step.place;
-    let time_at = time_place(ring, place.position);
-    let mu_at = mu_place(ring, place.position);
-    region[0] = step.mu;
-    region[1] = step.t_start;
-    region[2] = step.time;
-    region[3] = ring.head as u64;
-    region[4] = place.count as u64;
-    region[5] = step.coalesced;
-    region[time_at] = step.time;
-    region[mu_at] = step.mu;
 }

@@ -12,11 +12,10 @@ use Rattle.dynamics.specs.Region.{Gives}
 use Rattle.dynamics.specs.declared.call.Inputs.{Inputs}
 use Rattle.dynamics.proofs.Accepted.{form_fails, refused}
 use Rattle.blocks.specs.Block.{machine_of}
-use Rattle.blocks.specs.declared.named.Named.{Named}
-use Rattle.blocks.specs.declared.named.Named.TheVariants.{Nothing}
-use Rattle.blocks.specs.declared.named.Named.TheVariants as variant
 use Rattle.runs.specs.Run.{words_per_answer, asked, ran_words, ran_answers, run_refusal}
 use Rattle.exports.specs.Boundary.{no_block, answer_crossed, three_inputs}
+use Rattle.std.specs.Prelude.{Option, Some, None}
+use Rattle.blocks.specs.declared.block.Block.{Block}
 use Rattle.exports.specs.Calls.{by_name, update_left, tick_said, RunsBy}
 use Rattle.exports.specs.declared.boundary.AnswerWords.{AnswerWords}
 
@@ -48,11 +47,11 @@ module _ (time first second third : ℕ) (w answers : List ℕ) (one : length an
     keeps = refused _ w (tick_refusal M t w) same_number h
 
   -- a run that is refused: by the tests that come first in the tick, or because the words name no block
-  pub no_tick : (n : Named) {r : ℕ} {left said : List ℕ} → RunsBy n words w answers r left said → (r ≡ 0 → ⊥)
+  pub no_tick : (n : Option Block) {r : ℕ} {left said : List ℕ} → RunsBy n words w answers r left said → (r ≡ 0 → ⊥)
       → {x : AnswerWords} → x ≡ answer_crossed (silent r)
       → Gives (tick_said n (real_of time) (three_inputs first second third) w) (update_left n (real_of time) (three_inputs first second third) w) x left
   unfolding by_name
-  no_tick (variant.Block b) ran h x =
+  no_tick (Some b) ran h x =
       let M = machine_of b in
       let number = ran.number ∙ fits M in
       let i = three_inputs first second third in
@@ -60,13 +59,13 @@ module _ (time first second third : ℕ) (w answers : List ℕ) (one : length an
         answers = x ∙ ap answer_crossed (says_so M (real_of time) i number h);
         leaves = ran.leaves ∙ sym (refused _ w _ ran.number h) ∙ keeps M (real_of time) i number h;
       }
-  no_tick Nothing ran h x = record { answers = rw ran.number at x; leaves = ran.leaves }
+  no_tick None ran h x = record { answers = rw ran.number at x; leaves = ran.leaves }
 
   -- a run that is not
-  pub one_tick : (n : Named) {r : ℕ} {left said : List ℕ} → RunsBy n words w answers r left said → r ≡ 0
+  pub one_tick : (n : Option Block) {r : ℕ} {left said : List ℕ} → RunsBy n words w answers r left said → r ≡ 0
       → Gives (tick_said n (real_of time) (three_inputs first second third) w) (update_left n (real_of time) (three_inputs first second third) w) (in_order said) left
   unfolding by_name accept asked ran_words ran_answers answer_crossed three_inputs
-  one_tick (variant.Block b) ran z =
+  one_tick (Some b) ran z =
       let none : run_refusal (machine_of b) words w answers ≡ 0 = sym ran.number ∙ z in
       record { answers = ap in_order (rw none at ran.says); leaves = rw none at ran.leaves }
-  one_tick Nothing ran z = let no : ◌≡◌ {A = ℕ} no_block 0 = sym ran.number ∙ z in absurd (omega arith)
+  one_tick None ran z = let no : ◌≡◌ {A = ℕ} no_block 0 = sym ran.number ∙ z in absurd (omega arith)

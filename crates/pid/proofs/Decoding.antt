@@ -1,4 +1,5 @@
 -- The controllers as the laws of blocks with a state record take them. Assumes nothing.
+use Rattle.std.specs.Prelude.{None}
 use mathlib.Core.Path.{◌≡◌, refl}
 use mathlib.Core.Bool.{Bool, true, false}
 use mathlib.Core.List.{List, [], ◌∷◌}
@@ -11,49 +12,19 @@ use lib.Ieee.{binary64, fits, of_bits}
 use Rattle.reals.proofs.Words.{real_word, flag_back}
 use Rattle.dynamics.specs.Previous.{previous_of, word_of_previous, sound_previous}
 use Rattle.dynamics.specs.Region.{stored}
-use Rattle.dynamics.specs.declared.previous.Previous.TheVariants.{Unset}
 use Rattle.dynamics.specs.Sound.{StaysSound}
-use Rattle.dynamics.proofs.Opening.{Enum}
-use Rattle.dynamics.proofs.Steps.{Opens}
 use Rattle.dynamics.proofs.Steps as steps
 use Rattle.controller.specs.Recurrence.{state_after, next_state}
 use Rattle.controller.specs.declared.config.ControllerType.{ControllerType}
 use Rattle.controller.specs.declared.config.ControllerType.TheVariants.{P, Pi, Pd, Pid}
 use Rattle.controller.specs.declared.config.ControllerConfig.{ControllerConfig}
 use Rattle.controller.specs.declared.recurrence.State.{State}
-use Rattle.pid.specs.Pid.{state_length, state_of, words_of, initial, block, machine, zeros, reads}
-use Rattle.pid.specs.declared.state.Decoded.{Decoded}
-use Rattle.pid.specs.declared.state.Decoded.TheVariants.{Refused}
-use Rattle.pid.specs.declared.state.Decoded.TheVariants as variant
-
-pub apart : (s : State) (n : ℕ) → variant.State s ≡ Refused n → ⊥
-apart s n e = let z : ◌≡◌ {A = ℕ} 0 1 = cc in omega arith
+use Rattle.pid.specs.Pid.{state_length, state_of, words_of, initial, block, machine, zeros, counted}
 
 -- the record of zeros is what words of 0 mean to the type that keeps all
 pub zeros_mean : state_of Pid true [] ≡ zeros
 unfolding state_of previous_of of_bits
 zeros_mean = refl
-
-abbrev pub decoded : Enum State Decoded
-decoded = record {
-  state = variant.State;
-  refused = Refused;
-  zeros = zeros;
-  reads = reads;
-  reads_state = λ s. refl;
-  reads_refused = λ n. refl;
-  apart = apart;
-}
-
--- a state has as many words as its type keeps
-pub counted : (t : ControllerType) (reset : Bool) (s : State) → length (words_of t reset s) ≡ state_length t reset
-unfolding words_of
-counted P reset s = refl
-counted Pi true s = refl
-counted Pi false s = refl
-counted Pd reset s = refl
-counted Pid true s = refl
-counted Pid false s = refl
 
 -- what a type stores of f64 numbers is read back as it was stored
 module _ (s : State) (integrator : T (fits binary64 s.integrator)) (filter : T (fits binary64 s.filter)) (time : previous_of (word_of_previous s.previous) ≡ s.previous) where
@@ -67,21 +38,12 @@ module _ (s : State) (integrator : T (fits binary64 s.integrator)) (filter : T (
   read_back Pid false = simp (real_word s.integrator integrator, real_word s.filter filter, time)
 
 -- a fresh one is read back with its previous time unset
-pub fresh_unset : (t : ControllerType) (reset : Bool) (b : ControllerConfig) → (state_of t reset (words_of t reset (initial b))).previous ≡ Unset
+pub fresh_unset : (t : ControllerType) (reset : Bool) (b : ControllerConfig) → (state_of t reset (words_of t reset (initial b))).previous ≡ None
 unfolding words_of state_of previous_of
 fresh_unset P reset b = refl
 fresh_unset Pi reset b = refl
 fresh_unset Pd reset b = refl
 fresh_unset Pid reset b = refl
-
--- with or without reset
-abbrev pub controller : Bool → Opens ControllerConfig State Decoded
-controller reset = record {
-  enum = decoded;
-  block = block reset;
-  counted = λ b s. counted b.controller_type reset s;
-  fresh_unset = λ b. fresh_unset b.controller_type reset b;
-}
 
 -- a fresh start is sound, and each call keeps a sound region sound
 time_read : (t : ControllerType) (reset : Bool) (s : State) → sound_previous (previous_of (word_of_previous s.previous)) ≡ true
@@ -93,7 +55,7 @@ time_read Pd reset s e = e
 time_read Pid reset s e = e
 
 pub stays_sound : (reset : Bool) (b : ControllerConfig) → StaysSound (machine reset b)
-stays_sound reset b = steps.stays_sound (controller reset) b (λ s time i e. time_read b.controller_type reset _ (unfold next_state state_after in e))
+stays_sound reset b = steps.stays_sound (block reset b) (counted b.controller_type reset) (fresh_unset b.controller_type reset b) (λ s time i e. time_read b.controller_type reset _ (unfold next_state state_after in e))
 
 -- no words are stored by doing nothing
 pub none_stored : (w : List ℕ) → w ≡ stored w []

@@ -1,13 +1,11 @@
 -- `Pid` and `PidWithReset` over a region: one core, two machines. Definitions only.
-use Rattle.std.specs.Prelude.{ℕ, Bool, true, false, ◌&&◌, cond, List, [], ◌∷◌, get_or, Float}
+use Rattle.std.specs.Prelude.{ℕ, ◌≡◌, refl, length, Bool, true, false, ◌&&◌, cond, List, [], ◌∷◌, get_or, Float, None, Some}
 use Rattle.reals.specs.Words.{0·0, real_of, word_of, flag_of, word_of_flag}
-use Rattle.dynamics.specs.Previous.{previous_of, word_of_previous}
+use Rattle.dynamics.specs.Previous.{previous_of, word_of_previous, Previous}
 use Rattle.dynamics.specs.Answer.{Outputs, real_output}
-use Rattle.dynamics.specs.Machine.{Machine, Reading}
-use Rattle.dynamics.specs.Stepped.{Stepped, stepped_machine, opened_as}
+use Rattle.dynamics.specs.Machine.{Machine}
+use Rattle.dynamics.specs.Stepped.{Stepped, stepped_machine}
 use Rattle.dynamics.specs.declared.call.Inputs.{Inputs}
-use Rattle.dynamics.specs.declared.previous.Previous.{Previous}
-use Rattle.dynamics.specs.declared.previous.Previous.TheVariants.{Unset, At}
 use Rattle.controller.specs.Settings.{settings_accepted}
 use Rattle.controller.specs.Recurrence.{terms_of, next_state}
 use Rattle.controller.specs.declared.config.ControllerType.{ControllerType}
@@ -16,9 +14,6 @@ use Rattle.controller.specs.declared.config.ControllerConfig.{ControllerConfig}
 use Rattle.controller.specs.declared.recurrence.State.{State}
 use Rattle.controller.specs.declared.recurrence.Heard.{Heard}
 use Rattle.controller.specs.declared.recurrence.Terms.{Terms}
-use Rattle.pid.specs.declared.state.Decoded.{Decoded}
-use Rattle.pid.specs.declared.state.Decoded.TheVariants.{Refused}
-use Rattle.pid.specs.declared.state.Decoded.TheVariants as variant
 
 -- ---- the words. P: none. PI: integrator, previous time. PD: previous time, filter. PID: integrator, previous time, filter.
 -- With reset, PI and PID add the previous trigger last; P and PD add nothing
@@ -34,7 +29,7 @@ parts integrator previous filter trigger = record { integrator = integrator; pre
 
 -- a part that the type lacks is 0.0, unset or false
 unfoldable pub state_of : ControllerType → Bool → List ℕ → State
-state_of P reset w = parts 0·0 Unset 0·0 false
+state_of P reset w = parts 0·0 None 0·0 false
 state_of Pi reset w = parts (real_of (get_or w 0 0)) (previous_of (get_or w 1 0)) 0·0 (reset && flag_of (get_or w 2 0))
 state_of Pd reset w = parts 0·0 (previous_of (get_or w 0 0)) (real_of (get_or w 1 0)) false
 state_of Pid reset w = parts (real_of (get_or w 0 0)) (previous_of (get_or w 1 0)) (real_of (get_or w 2 0)) (reset && flag_of (get_or w 3 0))
@@ -53,7 +48,7 @@ words_of Pid reset s = word_of s.integrator ∷ word_of_previous s.previous ∷ 
 
 -- integrator at xi_start, previous time unset; the rest zero
 abbrev pub initial : ControllerConfig → State
-initial b = parts b.xi_start Unset 0·0 false
+initial b = parts b.xi_start None 0·0 false
 
 -- a tick's inputs are its words; without reset no trigger is heard
 unfoldable pub heard : Bool → Inputs → Heard
@@ -78,15 +73,16 @@ block reset b = record {
 abbrev pub machine : Bool → ControllerConfig → Machine
 machine reset b = stepped_machine (block reset b)
 
--- ---- a region taken apart, by the refusal number of the call
+-- a state has as many words as its type keeps
+pub counted : (t : ControllerType) (reset : Bool) (s : State) → length (words_of t reset s) ≡ state_length t reset
+unfolding words_of
+counted P reset s = refl
+counted Pi true s = refl
+counted Pi false s = refl
+counted Pd reset s = refl
+counted Pid true s = refl
+counted Pid false s = refl
 
-abbrev pub opened : Bool → ControllerConfig → ℕ → List ℕ → Decoded
-opened reset b n w = opened_as variant.State Refused n (state_of b.controller_type reset w)
-
--- what each case stands for: its number, and the state or the record of zeros
+-- the record of zeros, for which a refused decode stands: one for all types
 abbrev pub zeros : State
-zeros = parts 0·0 (At 0·0) 0·0 false
-
-abbrev pub reads : Decoded → Reading State
-reads (variant.State s) = record { refusal = 0; state = s }
-reads (Refused n) = record { refusal = n; state = zeros }
+zeros = parts 0·0 (Some 0·0) 0·0 false

@@ -4,7 +4,7 @@ use Prim.Native.Nat.{ℕ, suc, ◌+◌, ◌-◌, ◌*◌, ◌/◌, ◌%◌, ◌^
 use native.Mathlib.Nat.{le_trans, le_of_eq, le_antisymm, lt_of_lt_of_le, lt_of_le_of_lt, le_of_lt, add-mul, mul-one, mul_assoc, mul_right_comm, mul-pos, mul-le-mul_right, mul-lt-mul_of_pos_right, lt_of_mul-lt-mul_right, lt_of_not-le, not-le_of_lt, div-one, mod-one, div-mul-le_self, le-div_iff_mul-le, div-lt_iff_lt-mul}
 use native.Mathlib.Omega.{arith}
 use mathlib.Core.Bool.{Bool, true, false, not, ◌&&◌, cond, true≢false}
-use borrow.Author.Tests.{ltb-true, ltb-false, not-true, not-false}
+use borrow.Author.Tests.{ltb-true, ltb-false, not-true}
 use denote.Floats.{passes}
 use lib.Dec.{T, ltb, lit<, lit≤}
 use lib.Pow.{pow_pos, pow_mono}
@@ -240,18 +240,18 @@ positive w (fin false m e) r h small k = k (near_at m e small)
 abbrev pub size_of : Float → Float
 size_of x = cond (lt x 0·0) (neg x) x
 
-module _ (w : Way) (x s : Float) (is_size : s ≡ size_of x) (small : not (lt s two52) ≡ false) where
+module _ (w : Way) (x s : Float) (is_size : s ≡ size_of x) (small : lt s two52 ≡ true) where
   size_by : {b : Bool} → lt x 0·0 ≡ b → cond b (neg x) x ≡ s
   size_by h = sym (is_size ∙ ap (λ (z : Bool). cond z (neg x) x) h)
 
   pub below_zero : (r : Float) → lt x 0·0 ≡ true → (Near s → Sized w true s r) → neg r ≡ whole w x
   below_zero r h =
-      subst (λ (z : Float). lt z two52 ≡ true → (Near z → Sized w true z r) → neg r ≡ whole w x) (size_by h) (negative w x r h) (not-false (lt s two52) small)
+      subst (λ (z : Float). lt z two52 ≡ true → (Near z → Sized w true z r) → neg r ≡ whole w x) (size_by h) (negative w x r h) small
 
   pub above_zero : (r : Float) → lt 0·0 x ≡ true → (Near s → x ≡ s → Sized w false s r) → r ≡ whole w x
   above_zero r h k =
       let e : x ≡ s = size_by (le_not_lt 0·0 x (lt_le 0·0 x (passes _ h))) in
-      subst (λ (z : Float). lt z two52 ≡ true → (Near z → Sized w false z r) → r ≡ whole w x) e (positive w x r h) (not-false (lt s two52) small) (λ p. k p e)
+      subst (λ (z : Float). lt z two52 ≡ true → (Near z → Sized w false z r) → r ≡ whole w x) e (positive w x r h) small (λ p. k p e)
 
 -- ---- a zero stays, and what is not below 2 ^ 52 in size
 pub zero_stays : (w : Way) (x : Float) → T (fits binary64 x) → lt x 0·0 ≡ false → lt 0·0 x ≡ false → x ≡ whole w x

@@ -1,14 +1,13 @@
 -- Stored words and the reals that they mean: a real is stored and read back unchanged. Assumes nothing.
 use mathlib.Core.Path.{◌≡◌, refl, sym, ap, ◌∙◌, subst}
-use Prim.Native.Nat.{ℕ, ◌%◌, ◌^◌, ◌≤◌, ◌<◌}
+use Prim.Native.Nat.{ℕ, ◌%◌, ◌^◌, ◌<◌}
 use mathlib.Core.Bool.{Bool, true, false, not, cond, true≢false}
-use lib.Dec.{T}
-use borrow.Author.Tests.{lt-ltb, le-ltb}
-use lib.Ieee.{Float, nan, inf, fin, binary64, to_bits, fits, is_nan, nan_bits, ne, lt}
+use lib.Dec.{T, ltb}
+use lib.Ieee.{Float, nan, inf, fin, binary64, to_bits, fits, is_nan, nan_bits}
 use lib.Ieee.Bits.{of_bits-to_bits, to_bits-lt, of_bits-fits, to_bits-of_bits, nan_bits_is, nan_bits_above}
-use lib.Ieee.Compare.{differs_from_itself, nan_differs}
 use lib.Ieee.Fits.{round-fits}
 use lib.Ieee.Scale.{finite}
+use Rattle.std.specs.Float.{float_is_finite}
 use Rattle.reals.specs.Words.{nearest, real_of, word_of, canonical_word, flag_of, word_of_flag}
 
 -- ---- which patterns and which reals are NaN
@@ -18,23 +17,12 @@ nan_of nan h = refl
 nan_of (inf s) h = absurd (true≢false (sym h))
 nan_of (fin s m e) h = absurd (true≢false (sym h))
 
-pub nan_pattern : (w : ℕ) → 0x7ff0_0000_0000_0000 < w % 2 ^ 63 → nan_bits binary64 w ≡ true
-nan_pattern w h = nan_bits_above binary64 w ∙ lt-ltb _ _ h
+-- a NaN's pattern lies above infinity's, but for the sign
+pub nan_above : (w : ℕ) → ltb 0x7ff0_0000_0000_0000 (w % 2 ^ 63) ≡ is_nan (real_of w)
+nan_above w = sym (nan_bits_above binary64 w) ∙ nan_bits_is binary64 w
 
-pub number_pattern : (w : ℕ) → w % 2 ^ 63 ≤ 0x7ff0_0000_0000_0000 → nan_bits binary64 w ≡ false
-number_pattern w h = nan_bits_above binary64 w ∙ le-ltb _ _ h
-
-pub real_nan : (w : ℕ) → nan_bits binary64 w ≡ true → real_of w ≡ nan
-real_nan w h = nan_of (real_of w) (sym (nan_bits_is binary64 w) ∙ h)
-
-pub nan_of_differs : (x : Float) → ne x x ≡ true → x ≡ nan
-nan_of_differs x h = differs_from_itself x (subst T (sym h) tt)
-
-pub number_of_same : (x : Float) → ne x x ≡ false → T (not (is_nan x))
-unfolding is_nan
-number_of_same nan h = absurd (true≢false (sym nan_differs ∙ h))
-number_of_same (inf s) h = tt
-number_of_same (fin s m e) h = tt
+pub number_bits : (w : ℕ) → is_nan (real_of w) ≡ false → T (not (nan_bits binary64 w))
+number_bits w h = rw (nan_bits_is binary64 w ∙ h) tt
 
 -- ---- there and back
 -- what a real is stored as is read back as that real
@@ -53,7 +41,7 @@ word_real w h n = to_bits-of_bits binary64 w h n
 pub real_fits : (w : ℕ) → T (fits binary64 (real_of w))
 real_fits w = of_bits-fits binary64 w
 
-word_nan : word_of nan ≡ 0x7ff8_0000_0000_0000
+pub word_nan : word_of nan ≡ 0x7ff8_0000_0000_0000
 unfolding to_bits
 word_nan = refl
 
@@ -78,16 +66,9 @@ pub flag_back : (b : Bool) → flag_of (word_of_flag b) ≡ b
 flag_back true = refl
 flag_back false = refl
 
--- ---- a finite real lies between the infinities
-pub finite_between : (x : Float) → lt x (inf false) ≡ true → lt (inf true) x ≡ finite x
-unfolding lt
-finite_between nan h = refl
-finite_between (inf true) h = refl
-finite_between (inf false) h = cc
-finite_between (fin s m e) h = refl
-
-pub not_finite : (x : Float) → lt x (inf false) ≡ false → false ≡ finite x
-unfolding lt
-not_finite nan h = refl
-not_finite (inf s) h = refl
-not_finite (fin s m e) h = sym h
+-- ---- which reals are finite
+pub finite_is : (x : Float) → float_is_finite x ≡ finite x
+unfolding float_is_finite
+finite_is nan = refl
+finite_is (inf s) = refl
+finite_is (fin s m e) = refl

@@ -1,14 +1,29 @@
 // What a stored word means: a real is its f64 bits, every NaN being the one; a boolean is true unless 0.
 ghost use Rattle.std.specs.Prelude.{◌≡◌};
+ghost use Rattle.std.specs.Float.Ieee.{is_nan};
 ghost use Rattle.std.specs.Float.Ieee.Scale.{finite};
 ghost use Rattle.reals.specs.Words.{real_of, word_of, canonical_word, flag_of, word_of_flag};
+
+// The patterns of infinity and of the one NaN, and the bit of the sign. Without that bit, every pattern above infinity's is a NaN's.
+const INFINITY_BITS: u64 = 0x7ff0_0000_0000_0000;
+
+const NAN_BITS: u64 = 0x7ff8_0000_0000_0000;
+
+const SIGN_BIT: u64 = 0x8000_0000_0000_0000;
+
+// Whether a word is the pattern of a NaN.
+fn is_nan_word(w: u64) -> bool
+    ensures { result ≡ is_nan (real_of w) }
+{
+    INFINITY_BITS < w % SIGN_BIT
+}
 
 // The real that a stored word means; every NaN pattern means the one NaN.
 pub fn real_of(w: u64) -> f64
     ensures { result ≡ real_of w }
 {
-    if 0x7ff0_0000_0000_0000 < w % 0x8000_0000_0000_0000 {
-        return 0.0 / 0.0;
+    if is_nan_word(w) {
+        return f64::NAN;
     }
     f64::from_bits(w)
 }
@@ -17,10 +32,10 @@ pub fn real_of(w: u64) -> f64
 pub fn word_of(x: f64) -> u64
     ensures { result ≡ word_of x }
 {
-    if x != x {
-        return 0x7ff8_0000_0000_0000;
+    if x.is_nan() {
+        return NAN_BITS;
     }
-    f64::to_bits(x)
+    x.to_bits()
 }
 
 // The word with every NaN made the canonical one; other words stay.
@@ -41,16 +56,12 @@ pub fn flag_of(w: u64) -> bool
 pub fn word_of_flag(b: bool) -> u64
     ensures { result ≡ word_of_flag b }
 {
-    if b { 1 } else { 0 }
+    u64::from(b)
 }
 
 // Neither a NaN nor an infinity.
 pub fn is_finite(x: f64) -> bool
     ensures { result ≡ finite x }
 {
-    let infinity = 1.0 / 0.0;
-    if x < infinity {
-        return -infinity < x;
-    }
-    false
+    x.is_finite()
 }

@@ -1,15 +1,12 @@
 -- A stored call: its words from before, its answers and its words from after, and whether a block agrees. Definitions only.
-use Rattle.std.specs.Prelude.{ℕ, ◌+◌, ◌≤◌, ◌≡◌, List, Bool, true, ◌&&◌, length, replicate}
+use Rattle.std.specs.Prelude.{Option, Some, None, Result, Ok, Err, ℕ, ◌+◌, ◌≤◌, ◌≡◌, List, Bool, true, ◌&&◌, length, replicate}
 use Rattle.text.specs.Bytes.{same_list}
 use Rattle.dynamics.specs.Machine.{emit_answer, update_answer, updated_words, tick_answer}
 use Rattle.blocks.specs.Block.{machine_of, inputs_of}
 use Rattle.blocks.specs.declared.block.Block.{Block}
 use Rattle.blocks.specs.declared.block.Tick.{Tick}
 use Rattle.replay.specs.declared.answer.Stored.{Stored}
-use Rattle.replay.specs.declared.compare.Verdict.{Verdict}
-use Rattle.replay.specs.declared.compare.Verdict.TheVariants as verdict
-use Rattle.replay.specs.declared.region.Next.{Next}
-use Rattle.replay.specs.declared.region.Next.TheVariants.{At, Bad}
+use Rattle.replay.specs.declared.compare.Differs.{Differs}
 use Rattle.replay.specs.Answer.{stored_at, meets_emit, meets_update, meets_tick}
 use Rattle.replay.specs.Region.{filled, ending}
 
@@ -32,9 +29,9 @@ module _ (pairs : Bool) (words : List ℕ) (at n : ℕ) where
     pub new : expected ≡ after
     pub whole : length words ≡ ending pairs words (answers_at + 5) before
 
-  abbrev pub LaidOut : Next → List ℕ → List ℕ → Type 0
-  LaidOut (At answers) region expected = Laid answers region expected
-  LaidOut Bad region expected = Unit {0}
+  abbrev pub LaidOut : Option ℕ → List ℕ → List ℕ → Type 0
+  LaidOut (Some answers) region expected = Laid answers region expected
+  LaidOut None region expected = Unit {0}
 
 -- ---- what the block's machine gives, compared with what is stored
 
@@ -61,9 +58,6 @@ module _ (block : Block) (tick : Tick) (pairs : Bool) (words : List ℕ) (at n :
     pub by_tick : tick_agrees block tick (before pairs words at n) (stored_at words (answers_at pairs words at n)) (after pairs words at n) ≡ true
 
   -- only of such a call is it said that all is as stored
-  abbrev pub Shown : Verdict → Type 0
-  Shown verdict.Same = Agrees
-  Shown verdict.Emit = Unit {0}
-  Shown verdict.Update = Unit {0}
-  Shown verdict.Tick = Unit {0}
-  Shown verdict.Malformed = Unit {0}
+  abbrev pub Shown : Result (Unit {0}) Differs → Type 0
+  Shown (Ok same) = Agrees
+  Shown (Err differs) = Unit {0}

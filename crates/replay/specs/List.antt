@@ -1,9 +1,8 @@
 -- A list of stored calls, a call to a line. Definitions only.
-use Rattle.std.specs.Prelude.{ℕ, ◌+◌, ◌-◌, ◌≤◌, List, length, take, drop}
+use Rattle.std.specs.Prelude.{Result, Ok, Err, ℕ, ◌+◌, ◌-◌, ◌≤◌, List, length, take, drop}
 use Rattle.text.specs.Stretches.{up_to}
 use Rattle.replay.specs.declared.form.Form.{Form}
-use Rattle.replay.specs.declared.compare.Verdict.{Verdict}
-use Rattle.replay.specs.declared.compare.Verdict.TheVariants as verdict
+use Rattle.replay.specs.declared.compare.Differs.{Differs}
 use Rattle.replay.specs.declared.list.Tally.{Tally}
 use Rattle.replay.specs.Line.{WordsOf}
 use Rattle.replay.specs.Replay.{CallHolds}
@@ -16,20 +15,14 @@ pub record LineHolds (form : Form) (line : List ℕ) : Type 0 where
   pub holds : CallHolds form (take count words)
 
 -- only of such a line is it said that all is as stored
-abbrev pub LineShown : Form → List ℕ → Verdict → Type 0
-LineShown form line verdict.Same = LineHolds form line
-LineShown form line verdict.Emit = Unit {0}
-LineShown form line verdict.Update = Unit {0}
-LineShown form line verdict.Tick = Unit {0}
-LineShown form line verdict.Malformed = Unit {0}
+abbrev pub LineShown : Form → List ℕ → Result (Unit {0}) Differs → Type 0
+LineShown form line (Ok same) = LineHolds form line
+LineShown form line (Err differs) = Unit {0}
 
 -- how many calls a verdict adds to those that differ
-abbrev pub told : Verdict → ℕ
-told verdict.Same = 0
-told verdict.Emit = 1
-told verdict.Update = 1
-told verdict.Tick = 1
-told verdict.Malformed = 1
+abbrev pub told : Result (Unit {0}) Differs → ℕ
+told (Ok same) = 0
+told (Err differs) = 1
 
 -- the line that starts at `at` ends before the next byte 10, or with the text
 abbrev pub line_end : List ℕ → ℕ → ℕ

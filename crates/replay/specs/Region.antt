@@ -1,7 +1,5 @@
 -- A region's stored words. Definitions only.
-use Rattle.std.specs.Prelude.{ℕ, zero, suc, ◌+◌, ◌*◌, ◌≡◌, List, [], ◌∷◌, Bool, true, false, length, take, drop, get_or, set}
-use Rattle.replay.specs.declared.region.Next.{Next}
-use Rattle.replay.specs.declared.region.Next.TheVariants.{At, Bad}
+use Rattle.std.specs.Prelude.{Option, Some, None, ℕ, zero, suc, ◌+◌, ◌*◌, ◌≡◌, List, [], ◌∷◌, Bool, true, false, length, take, drop, get_or, set}
 
 -- n words, each given by its place and itself, put into a region
 unfoldable pub paired : ℕ → List ℕ → List ℕ → List ℕ
@@ -26,6 +24,6 @@ pub record Filled (pairs : Bool) (words : List ℕ) (at : ℕ) (old : List ℕ) 
   pub holds : new ≡ filled pairs words at old
 
 -- so it is, unless the words are no region's
-abbrev pub PutIn : Bool → List ℕ → ℕ → List ℕ → Next → List ℕ → Type 0
-PutIn pairs words at old (At next) new = Filled pairs words at old next new
-PutIn pairs words at old Bad new = Unit {0}
+abbrev pub PutIn : Bool → List ℕ → ℕ → List ℕ → Option ℕ → List ℕ → Type 0
+PutIn pairs words at old (Some next) new = Filled pairs words at old next new
+PutIn pairs words at old None new = Unit {0}

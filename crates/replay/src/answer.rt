@@ -9,7 +9,7 @@ use reals::{word_of, word_of_flag};
 pub const STORED_LEN: usize = 5;
 
 // What the emit and the update answer.
-#[derive(Clone, Copy)]
+#[derive(Clone, Copy, Debug, PartialEq, Eq)]
 pub struct Stored {
     pub refusal: u64,
     pub real: u64,
@@ -19,6 +19,7 @@ pub struct Stored {
 }
 
 // The answers that start at `at`.
+#[tactic(auto, unfolding(crate::specs::Answer::stored_at))]
 pub(crate) fn stored_at(words: &[u64], at: usize) -> Stored
     requires { at + 5 ≤ length words.now }
     ensures { result ≡ stored_at words.now at }
@@ -33,6 +34,7 @@ pub(crate) fn stored_at(words: &[u64], at: usize) -> Stored
 }
 
 // Whether an answer has these words.
+#[tactic(auto, unfolding(crate::specs::Answer::answers_with))]
 fn answers_with(a: Answer, refusal: u64, real: u64, boolean: u64, warning: u64) -> bool
     ensures { result ≡ answers_with a refusal real boolean warning }
 {

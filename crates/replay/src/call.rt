@@ -1,26 +1,25 @@
 // The call that a line's words store.
 ghost use Rattle.std.specs.Prelude.{◌≡◌, ◌+◌, ◌≤◌, length};
 ghost use Rattle.replay.specs.Call.{input_at, tick_at};
-ghost use Rattle.replay.specs.Form.{Sized};
 ghost use Rattle.replay.specs.Replay.{Replayed};
 
-use crate::compare::{Verdict, compare};
+use crate::compare::{Call, Differs};
 use crate::form::Form;
-use blocks::{Named, Tick, block_of};
+use crate::region::{Regions, Words};
+use blocks::{Tick, block_of};
 use reals::real_of;
 
 // An input of the tick. One that the block does not have is the word 1, which must not be heard.
+#[tactic(auto, unfolding(crate::specs::Call::input_at))]
 fn input_at(words: &[u64], at: usize, inputs: usize, k: usize) -> u64
     requires { at + inputs ≤ length words.now }
     ensures { result ≡ input_at words.now at inputs k }
 {
-    if k < inputs {
-        return words[at + k];
-    }
-    1
+    if k < inputs { words[at + k] } else { 1 }
 }
 
 // The tick whose time stands at `at`, with its inputs after it.
+#[tactic(auto, unfolding(crate::specs::Call::tick_at))]
 fn tick_at(words: &[u64], at: usize, inputs: usize) -> Tick
     requires { at + inputs + 1 ≤ length words.now }
     ensures { result ≡ tick_at words.now at inputs }
@@ -35,34 +34,23 @@ fn tick_at(words: &[u64], at: usize, inputs: usize) -> Tick
 }
 
 // Replays the call that these words store.
-pub(crate) fn replay(form: Form, words: &[u64], region: &mut [u64], expected: &mut [u64]) -> Verdict
-    requires { Sized form }
+pub(crate) fn replay(form: Form, words: &[u64], regions: &mut Regions<'_>) -> Result<(), Differs>
     ensures { Replayed form words.now result }
 {
     let settings = form.settings;
     let inputs = form.inputs;
     let at = settings + inputs + 1;
-    if words.len() <= at {
-        return Verdict::Malformed;
+    let region = &mut *regions.region;
+    let expected = &mut *regions.expected;
+    let n = *words.get(at).ok_or(Differs::Malformed)? as usize;
+    if region.len() < n || expected.len() < n {
+        return Err(Differs::Malformed);
     }
-    let n = words[at] as usize;
-    if region.len() < n {
-        return Verdict::Malformed;
-    }
-    if expected.len() < n {
-        return Verdict::Malformed;
-    }
-    let Named::Block(block) = block_of(form.number, &words[..settings]) else {
-        return Verdict::Malformed;
-    };
+    let block = block_of(form.number, &words[..settings]).ok_or(Differs::Malformed)?;
     let tick = tick_at(words, settings, inputs);
-    compare(
-        block,
-        tick,
-        form.pairs,
+    let line = Words {
         words,
-        at + 1,
-        &mut region[..n],
-        &mut expected[..n],
-    )
+        pairs: form.pairs,
+    };
+    Call { block, tick }.compare(line, at + 1, &mut region[..n], &mut expected[..n])
 }

@@ -1,53 +1,78 @@
 // How the calls of a block are stored.
 ghost use Rattle.std.specs.Prelude.{◌≤◌};
 ghost use Rattle.blocks.specs.Named.{controller_settings};
-ghost use Rattle.replay.specs.Form.{Sized};
 
 use blocks::CONTROLLER_SETTINGS;
 
-// The block's number, how many settings and inputs it has, and whether its region is given by pairs.
+// The eight blocks.
+#[derive(Clone, Copy, Debug, PartialEq, Eq)]
+pub enum Kind {
+    Pid,
+    PidWithReset,
+    MovingAverage,
+    TimerAccumulating,
+    TrueDelay,
+    TrueFalseHold,
+    TrueHoldWithReset,
+    LogicalVariablePulse,
+}
+
+// All of them, in the order of their numbers.
+pub const KINDS: [Kind; 8] = [
+    Kind::Pid,
+    Kind::PidWithReset,
+    Kind::MovingAverage,
+    Kind::TimerAccumulating,
+    Kind::TrueDelay,
+    Kind::TrueFalseHold,
+    Kind::TrueHoldWithReset,
+    Kind::LogicalVariablePulse,
+];
+
+// The block's number, how many settings and inputs it has, and whether its region is given by pairs. No block has more settings than a
+// controller, or more inputs than three.
 #[derive(Clone, Copy)]
 pub struct Form {
     pub number: u64,
     pub settings: usize,
     pub inputs: usize,
     pub pairs: bool,
+    ghost settings_fit: { settings ≤ controller_settings },
+    ghost inputs_fit: { inputs ≤ 3 },
 }
 
-// No block has more settings than a controller.
-fn settings_of(number: u64) -> usize
-    ensures { result ≤ controller_settings }
-{
-    match number {
-        0 => CONTROLLER_SETTINGS,
-        1 => CONTROLLER_SETTINGS,
-        4 => 2,
-        5 => 2,
-        7 => 3,
-        _ => 1,
+impl Kind {
+    // Only the moving average has a region of so many words.
+    pub fn form(self) -> Form {
+        let (number, settings, inputs) = match self {
+            Kind::Pid => (0, CONTROLLER_SETTINGS, 2),
+            Kind::PidWithReset => (1, CONTROLLER_SETTINGS, 3),
+            Kind::MovingAverage => (2, 1, 1),
+            Kind::TimerAccumulating => (3, 1, 2),
+            Kind::TrueDelay => (4, 2, 1),
+            Kind::TrueFalseHold => (5, 2, 1),
+            Kind::TrueHoldWithReset => (6, 1, 2),
+            Kind::LogicalVariablePulse => (7, 3, 1),
+        };
+        Form {
+            number,
+            settings,
+            inputs,
+            pairs: self == Kind::MovingAverage,
+        }
     }
-}
 
-fn inputs_of(number: u64) -> usize
-    ensures { result ≤ 3 }
-{
-    match number {
-        0 => 2,
-        1 => 3,
-        3 => 2,
-        6 => 2,
-        _ => 1,
-    }
-}
-
-// Only the moving average has a region of so many words.
-pub fn form_of(number: u64) -> Form
-    ensures { Sized result }
-{
-    Form {
-        number,
-        settings: settings_of(number),
-        inputs: inputs_of(number),
-        pairs: number == 2,
+    // The file that has its calls.
+    pub fn file(self) -> &'static str {
+        match self {
+            Kind::Pid => "Pid.txt",
+            Kind::PidWithReset => "PidWithReset.txt",
+            Kind::MovingAverage => "MovingAverage.txt",
+            Kind::TimerAccumulating => "TimerAccumulating.txt",
+            Kind::TrueDelay => "TrueDelay.txt",
+            Kind::TrueFalseHold => "TrueFalseHold.txt",
+            Kind::TrueHoldWithReset => "TrueHoldWithReset.txt",
+            Kind::LogicalVariablePulse => "LogicalVariablePulse.txt",
+        }
     }
 }

@@ -10,11 +10,17 @@ mod list;
 mod region;
 mod report;
 
+use region::Regions;
+
 // The longest list has 156145 bytes, and the largest region of a moving average 262158 words.
 fn main(rt: HostRuntime) {
     let mut bytes = [0u8; 262144];
     let mut region = [0u64; 262158];
     let mut expected = [0u64; 262158];
-    let total = list::replay_all(&rt, &mut bytes, &mut region, &mut expected);
+    let mut regions = Regions {
+        region: &mut region,
+        expected: &mut expected,
+    };
+    let total = list::replay_all(&rt, &mut bytes, &mut regions);
     report::print_total(&rt, total);
 }

@@ -1,87 +1,71 @@
-// A region's stored words, put into a lent region and compared.
-ghost use Rattle.std.specs.Prelude.{◌≡◌, length, replicate, true, false};
+// A region's stored words, put into a lent region.
+ghost use Rattle.std.specs.Prelude.{length, replicate, true, false};
 ghost use Rattle.replay.specs.Region.{PutIn};
-ghost use Rattle.text.specs.Bytes.{same_list};
 
-use dynamics::{clear, store};
-
-// Where what follows a region's words starts, or that they are no region's.
-#[derive(Clone, Copy)]
-pub enum Next {
-    At(usize),
-    Bad,
+// Two regions of the same length that calls are replayed on: the block's own, and one for what it is to hold.
+#[derive(Drop)]
+pub struct Regions<'a> {
+    pub region: &'a mut [u64],
+    pub expected: &'a mut [u64],
 }
 
-// Puts in all words.
-fn put_all(words: &[u64], at: usize, region: &mut [u64]) -> Next
+// Puts in all words. Where what follows them starts, if there are so many.
+#[tactic(auto, unfolding(crate::specs::Region::filled, crate::specs::Region::ending))]
+fn put_all(words: &[u64], at: usize, region: &mut [u64]) -> Option<usize>
     ensures { PutIn false words.now at region.old result region.new }
 {
-    if words.len() < at {
-        return Next::Bad;
-    }
-    if words.len() - at < region.len() {
-        return Next::Bad;
+    if words.len() < at || words.len() - at < region.len() {
+        return None;
     }
     let end = at + region.len();
-    store(region, &words[at..end]);
-    Next::At(end)
+    region.copy_from_slice(&words[at..end]);
+    Some(end)
 }
 
-// Puts in a number of words, each given by its place and itself.
-fn put_pairs(words: &[u64], at: usize, region: &mut [u64]) -> Next
+// Puts in a number of words, each given by its place and itself. Where what follows them starts, if there are so many, and a place for each.
+fn put_pairs(words: &[u64], at: usize, region: &mut [u64]) -> Option<usize>
     ensures { PutIn true words.now at region.old result region.new }
 {
-    if words.len() <= at {
-        return Next::Bad;
-    }
-    let mut left = words[at];
+    let count = *words.get(at)?;
     let mut next = at + 1;
-    while 0 < left {
-        left -= 1;
+    for _put in 0..count {
         if words.len() - next < 2 {
-            return Next::Bad;
+            return None;
         }
         let place = words[next] as usize;
         if region.len() <= place {
-            return Next::Bad;
+            return None;
         }
         region[place] = words[next + 1];
         next += 2;
     }
-    Next::At(next)
+    Some(next)
 }
 
-// Puts in the words from `at` on, in the form in which the list has them.
-pub fn put(pairs: bool, words: &[u64], at: usize, region: &mut [u64]) -> Next
-    ensures { PutIn pairs words.now at region.old result region.new }
-{
-    if pairs {
-        return put_pairs(words, at, region);
-    }
-    put_all(words, at, region)
+// The words of a line, and whether a region's stand among them by pairs.
+#[derive(Clone, Copy)]
+pub struct Words<'a> {
+    pub words: &'a [u64],
+    pub pairs: bool,
 }
 
-// The same on a region that holds zeros.
-pub fn put_afresh(pairs: bool, words: &[u64], at: usize, region: &mut [u64]) -> Next
-    ensures { PutIn pairs words.now at (replicate (length region.old) 0) result region.new }
-{
-    clear(region);
-    put(pairs, words, at, region)
-}
-
-// Whether two regions hold the same words.
-pub fn same_words(a: &[u64], b: &[u64]) -> bool
-    ensures { result ≡ same_list a.now b.now }
-{
-    if a.len() != b.len() {
-        return false;
-    }
-    let mut i = 0;
-    while i < a.len() {
-        if a[i] != b[i] {
-            return false;
+impl Words<'_> {
+    // Puts in the words from `at` on, in the form in which the list has them.
+    pub fn put(self, at: usize, region: &mut [u64]) -> Option<usize>
+        ensures { PutIn self.entry.pairs self.entry.words.now at region.old result region.new }
+    {
+        if self.pairs {
+            put_pairs(self.words, at, region)
+        } else {
+            put_all(self.words, at, region)
         }
-        i += 1;
     }
-    true
+
+    // The same on a region that holds zeros.
+    pub fn put_afresh(self, at: usize, region: &mut [u64]) -> Option<usize>
+        ensures { PutIn self.entry.pairs self.entry.words.now at (replicate (length region.old) 0) result region.new }
+    {
+        region.fill(0);
+        self.put(at, region)
+    }
 }

@@ -1,5 +1,5 @@
 -- How a run ends, over any machine: by which test it is refused, or accepted. Assumes nothing.
-use mathlib.Core.Path.{◌≡◌, refl, sym, ◌∙◌}
+use mathlib.Core.Path.{◌≡◌, refl, sym, ap, ◌∙◌}
 use mathlib.Core.Bool.{Bool, true, false, ◌&&◌, cond}
 use mathlib.Core.List.{List}
 use Prim.Native.Nat.{ℕ, ◌%◌}
@@ -7,12 +7,27 @@ use native.Mathlib.Omega.{arith}
 use borrow.Author.Tests.{eq-eqb, ne_eqb}
 use lib.Dec.{eqb}
 use lib.ListN.{length}
-use Rattle.dynamics.specs.Answer.{form_refusal, refusal_of}
-use Rattle.dynamics.specs.Machine.{Machine, length_answer, start_refusal}
-use Rattle.dynamics.specs.declared.call.Length.{Length}
+use Rattle.std.specs.Prelude.{Result, Ok, Err, IsErrAnd}
+use Rattle.dynamics.specs.Answer as table
+use Rattle.dynamics.specs.Machine.{Machine, start_refusal}
+use Rattle.dynamics.specs.declared.refusal.Refusal.{Refusal}
 use Rattle.dynamics.proofs.Accepted as call
-use Rattle.dynamics.proofs.Calls.{length_0, length_2}
+use Rattle.dynamics.proofs.Opening as opening
+use Rattle.runs.specs.NoRun.{number, why}
+use Rattle.runs.specs.declared.NoRun.{NoRun}
+use Rattle.runs.specs.declared.NoRun.TheVariants.{BadTicks, Form}
 use Rattle.runs.specs.Run.{words_per_tick, asked, ran_words, ran_answers, answer_each, bad_ticks, run_refusal, Runs}
+
+-- ---- why a run is none
+-- what `?` makes of a refusal of its form
+pub handed : {X : Type 0} (d : Result X NoRun) (r : Refusal) → IsErrAnd d (λ q. q ≡ Form r) → why d ≡ table.number r
+handed (Ok x) r e = absurd e
+handed (Err q) r e = ap number e
+
+-- each has a number, which is not 0
+pub some_number : (q : NoRun) → number q ≡ 0 → ⊥
+some_number BadTicks e = omega arith
+some_number (Form r) e = opening.some_number r e
 
 -- ---- the number of a run
 module _ (M : Machine) (ticks region answers : List ℕ) where
@@ -27,16 +42,10 @@ module _ (M : Machine) (ticks region answers : List ℕ) where
     unfolding run_refusal
     no_room h = rw (eq-eqb _ _ whole, h) refl
 
-    -- the words fit: the number is a start's, which the state length tells
-    pub by_length : answer_each ticks answers ≡ true → {l : Length} {r : ℕ} → l ≡ length_answer M
-        → r ≡ form_refusal (eqb l.refusal 0) (eqb (length region) l.length) → r ≡ run_refusal M ticks region answers
-    unfolding run_refusal start_refusal
-    by_length each is e = rw (eq-eqb _ _ whole, each) (e ∙ rw is (go M.accepts refl))
-      where
-        go : (b : Bool) → M.accepts ≡ b
-            → form_refusal (eqb (length_answer M).refusal 0) (eqb (length region) (length_answer M).length) ≡ form_refusal M.accepts (eqb (length region) M.size)
-        go true s = rw (length_0 M s, s) refl
-        go false s = unfold form_refusal refusal_of in rw (length_2 M s, s) refl
+    -- the words fit: the number is a start's
+    pub as_start : answer_each ticks answers ≡ true → {r : ℕ} → r ≡ start_refusal M region → r ≡ run_refusal M ticks region answers
+    unfolding run_refusal
+    as_start each e = rw (eq-eqb _ _ whole, each) e
 
 -- ---- a run with its number
 module _ (M : Machine) (ticks region answers : List ℕ) {r : ℕ} (number : r ≡ run_refusal M ticks region answers) where

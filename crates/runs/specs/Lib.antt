@@ -1,2 +1,3 @@
 -- A run of many ticks.
 pub mod Run
+pub mod NoRun

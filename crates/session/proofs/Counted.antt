@@ -8,6 +8,7 @@ use borrow.Author.Tests.{ltb-true, ltb-false, leb-true, le-leb}
 use lib.Dec.{ltb, leb, eqb}
 use lib.ListN.{length, take, drop, length-append}
 use lib.Seq.{take-append_seam, drop-append_seam, length-take-le}
+use Rattle.std.specs.Prelude.{Option, Some, None}
 use Rattle.dynamics.specs.Answer.{accept}
 use Rattle.dynamics.specs.Machine.{length_answer, started_words, emit_answer, update_answer, tick_answer, updated_words}
 use Rattle.dynamics.specs.declared.call.Answer.{Answer}
@@ -16,17 +17,14 @@ use Rattle.dynamics.proofs.Calls.{Together, tick_together, length_0, length_2, s
 use Rattle.blocks.specs.Block.{machine_of, inputs_of, fresh, ticked}
 use Rattle.blocks.specs.declared.block.Block.{Block}
 use Rattle.blocks.specs.declared.block.Tick.{Tick}
-use Rattle.blocks.specs.declared.named.Named.{Named}
-use Rattle.blocks.specs.declared.named.Named.TheVariants.{Nothing}
-use Rattle.blocks.specs.declared.named.Named.TheVariants as named
 use Rattle.blocks.proofs.Lengths.{measured, updated_length}
 use Rattle.lines.specs.Forms.{form_of}
 use Rattle.lines.specs.Lines.{first_of, later_of}
 use Rattle.session.specs.declared.state.Run.{Run}
 use Rattle.session.specs.declared.state.Session.TheVariants.{Fresh, Running, Over}
 use Rattle.session.specs.Answers.{bad_text, block_text, refusal_text, counts_text, output_text, outputs_text, answer_text}
-use Rattle.session.specs.Soak.{Outcome, malformed, accepted, refused, judged, outcome, line_leaves, outcomes, outcome_text, texts, if_accepted, if_refused, tally, counted, report, too_long, run_text, named_text, lines_text}
-use Rattle.session.specs.Stream.{Went, one_more, ends, first_starts, first_names, tick_answered, tick_goes, goes_on, line_in}
+use Rattle.session.specs.Soak.{Outcome, malformed, accepted, refused, judged, outcome_with, outcome, left_with, line_leaves, outcomes, outcome_text, texts, if_accepted, if_refused, tally, counted, report, too_long, run_text, named_text, lines_text}
+use Rattle.session.specs.Stream.{Went, one_more, ends, first_starts, first_names, tick_answered, tick_goes, goes_with, goes_on, line_in}
 use Rattle.session.proofs.Sizes.{F64In, IsF64, f64_first, refused_short, room}
 use Rattle.session.proofs.Whole.{answers}
 
@@ -136,25 +134,19 @@ module _ (r : Run) (words rest : List ℕ) (size : length words ≡ (length_answ
   line_is : (line : List ℕ)
       → goes_on (words ++ rest) r line ≡ went_by r (line_leaves r.block words line ++ rest) (outcome r.block words line)
   unfolding goes_on outcome line_leaves ticked
-  line_is line = go (later_of r.block line).ok (tick_is (later_of r.block line).tick)
+  line_is line = go (later_of r.block line)
     where
-      go : (ok : Bool)
-          → (let k = (later_of r.block line).tick in
-          tick_goes (words ++ rest) r k
-          ≡ went_by r (updated_words (machine_of r.block) k.time (inputs_of k) words ++ rest) (judged (emit_answer (machine_of r.block) k.time (inputs_of k) words)))
-          → (let k = (later_of r.block line).tick in
-          cond ok (tick_goes (words ++ rest) r k) (record { session = Running r; words = words ++ rest; text = bad_text })
-          ≡ went_by r (cond ok (updated_words (machine_of r.block) k.time (inputs_of k) words) words ++ rest) (cond ok (judged (emit_answer (machine_of r.block) k.time (inputs_of k) words)) malformed))
-      go true e = e
-      go false e = unfold outcome_text in unfold if_accepted in unfold if_refused in refl
+      go : (k : Option Tick) → goes_with (words ++ rest) r k ≡ went_by r (left_with r.block words k ++ rest) (outcome_with r.block words k)
+      go (Some k) = tick_is k
+      go None = unfold outcome_text in unfold if_accepted in unfold if_refused in refl
 
 after_length : (b : Block) (words line : List ℕ) → length (line_leaves b words line) ≡ length words
 unfolding line_leaves ticked
-after_length b words line = go (later_of b line).ok
+after_length b words line = go (later_of b line)
   where
-    go : (ok : Bool) → length (cond ok (updated_words (machine_of b) (later_of b line).tick.time (inputs_of (later_of b line).tick) words) words) ≡ length words
-    go true = updated_length b (later_of b line).tick.time (inputs_of (later_of b line).tick) words
-    go false = refl
+    go : (k : Option Tick) → length (left_with b words k) ≡ length words
+    go (Some k) = updated_length b k.time (inputs_of k) words
+    go None = refl
 
 -- ---- all later lines
 
@@ -225,10 +217,10 @@ module _ (region : List ℕ) (lent : length region ≡ 4110) where
   abbrev by_refusal : Block → ℕ → List (List ℕ) → List ℕ
   by_refusal b n later = accept n (block_text b ++ report b (outcomes b (fresh b) later)) (refusal_text n)
 
-  first_is : (nm : Named) → F64In nm → (later : List (List ℕ)) → whole_text (first_names region nm) later ≡ named_text nm later
+  first_is : (nm : Option Block) → F64In nm → (later : List (List ℕ)) → whole_text (first_names region nm) later ≡ named_text nm later
   unfolding first_names named_text run_text accept
-  first_is Nothing f later = over region bad_text later
-  first_is (named.Block b) f later = go (machine_of b).accepts refl
+  first_is None f later = over region bad_text later
+  first_is (Some b) f later = go (machine_of b).accepts refl
     where
       go : (t : Bool) → (machine_of b).accepts ≡ t → whole_text (by_length b (length_answer (machine_of b))) later
           ≡ cond (too_long b) bad_text (by_refusal b (length_answer (machine_of b)).refusal later)

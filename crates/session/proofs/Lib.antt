@@ -1,5 +1,4 @@
 -- Laws of soak: a line, a chunk, the end, and the whole of a run.
-pub mod Answering
 pub mod Counted
 pub mod Exact
 pub mod Example

@@ -1,13 +1,13 @@
 -- Text put after text. Assumes nothing.
-use Prim.Native.Nat.{ℕ, suc, ◌+◌, ◌≤◌, ◌<◌}
+use Prim.Native.Nat.{ℕ, suc, ◌+◌, ◌≤◌}
 use mathlib.Core.Path.{◌≡◌, refl, ap, sym, subst, ◌∙◌}
-use mathlib.Core.List.{List, [], ◌∷◌, ◌++◌}
+use mathlib.Core.List.{List, [], ◌∷◌, ◌++◌, append_assoc}
 use native.Mathlib.Nat.{add-zero}
-use native.Mathlib.Numerals.{add-one}
 use native.Mathlib.Omega.{arith}
-use lib.ListN.{length, take, drop, get_or, set, length-append}
-use lib.Seq.{drop-cons, sets, sets-eq, take_at, length-take-le, length-sets}
-use Rattle.session.specs.Put.{Put, Counts}
+use lib.ListN.{length, take, drop, set, length-append}
+use lib.Seq.{drop-drop, sets, sets-eq, take_at, length-take-le, length-sets}
+use Rattle.session.specs.declared.put.Out.{Out}
+use Rattle.session.specs.Put.{Put, Puts, Counts}
 
 sets_append : (old : List ℕ) (at : ℕ) (a b : List ℕ) → sets old at (a ++ b) ≡ sets (sets old at a) (at + length a) b
 sets_append old at [] b = rw add-zero
@@ -28,10 +28,16 @@ put_as {old} {new} {at} {r} e p = subst (λ (l : List ℕ). Put old at l r new) 
 pub put_none : (old : List ℕ) (at : ℕ) → Put old at [] at old
 put_none old at = record { moved = omega arith; holds = refl }
 
--- one byte of s put, and then those after it
-pub put_next : (old : List ℕ) (at : ℕ) (s : List ℕ) (i : ℕ) → i < length s
-    → sets (set old at (get_or s i 0)) (at + 1) (drop (i + 1) s) ≡ sets old at (drop i s)
-put_next old at s i h = rw (drop-cons s i 0, add-one, add-one)
+-- the same of a buffer with its place
+pub puts_more : {old mid new : Out} {a b : List ℕ} → Puts old a mid → Puts mid b new → Puts old (a ++ b) new
+puts_more p q = record { same_reference = q.same_reference ∙ p.same_reference; size = q.size ∙ p.size; put = put_more p.put q.put }
+
+pub puts_none : (out : Out) → Puts out [] out
+puts_none out = record { same_reference = refl; size = refl; put = put_none out.bytes.now out.at }
+
+-- text copied into the middle of a buffer
+pub put_part : (old text : List ℕ) (at k : ℕ) → k ≡ length text → at + length text ≤ length old → take at old ++ (text ++ drop k (drop at old)) ≡ sets old at text
+put_part old text at k e room = rw (e, drop-drop, ← append_assoc) (sym (sets-eq text old at room))
 
 -- what stands in the buffer once text has been put after what was there
 pub put_taken : {old new : List ℕ} {at next : ℕ} {text : List ℕ} → at + length text ≤ length old → Put old at text next new → take next new ≡ take at old ++ text

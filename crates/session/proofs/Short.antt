@@ -5,6 +5,7 @@ use mathlib.Core.Bool.{Bool, true, false, cond}
 use native.Mathlib.Omega.{arith}
 use lib.Dec.{leb, eqb}
 use lib.ListN.{length, take, length-append}
+use Rattle.std.specs.Prelude.{Option, Some, None}
 use Rattle.reals.specs.Words.{word_of}
 use Rattle.dynamics.specs.Machine.{length_answer}
 use Rattle.dynamics.specs.declared.call.Answer.{Answer}
@@ -12,16 +13,15 @@ use Rattle.blocks.specs.Block.{machine_of}
 use Rattle.blocks.specs.declared.block.Block.{Block}
 use Rattle.blocks.specs.declared.block.Block.TheVariants.{Pid, PidWithReset, MovingAverage, TimerAccumulating, TrueDelay, TrueFalseHold, TrueHoldWithReset, LogicalVariablePulse}
 use Rattle.blocks.specs.declared.block.Tick.{Tick}
-use Rattle.blocks.specs.declared.named.Named.{Named}
-use Rattle.blocks.specs.declared.named.Named.TheVariants.{Nothing}
-use Rattle.blocks.specs.declared.named.Named.TheVariants as named
+use Rattle.lines.specs.Forms.{form_of}
 use Rattle.lines.specs.Lines.{first_of, later_of}
+use Rattle.text.specs.Bytes.{bytes}
 use Rattle.text.proofs.Lengths.{length_word, length_flag, length_decimal_most}
 use Rattle.session.specs.declared.state.Run.{Run}
 use Rattle.session.specs.declared.state.Session.{Session}
 use Rattle.session.specs.declared.state.Session.TheVariants.{Fresh, Running, Over}
 use Rattle.session.specs.Answers.{block_text, refusal_text, output_text, outputs_text, answer_text}
-use Rattle.session.specs.Stream.{Went, first_starts, first_names, tick_answered, tick_goes, goes_on, line_in, Stream, line_ends, last_line, closing, ended}
+use Rattle.session.specs.Stream.{Went, first_starts, first_names, tick_answered, tick_goes, goes_with, goes_on, line_in, Stream, line_ends, last_line, closing, ended}
 
 abbrev Short : Went → Type 0
 Short w = length w.text ≤ 32
@@ -54,6 +54,11 @@ answer_short (TrueFalseHold long_true long_false) a = simp length-append (omega 
 answer_short (TrueHoldWithReset duration) a = simp length-append (omega (arith, length_flag a.boolean))
 answer_short (LogicalVariablePulse period delta least) a = simp length-append (omega (arith, length_flag a.boolean))
 
+-- the outputs alone have a byte less
+pub outputs_short : (b : Block) (a : Answer) → length (outputs_text (form_of b).outputs a) ≤ 31
+unfolding answer_text
+outputs_short b a = omega (arith, answer_short b a, length-append (outputs_text (form_of b).outputs a) (bytes "\n"))
+
 answered_short : (region : List ℕ) (r : Run) (left : List ℕ) (a : Answer) → Short (tick_answered region r left a)
 unfolding tick_answered
 answered_short region r left a = either (eqb a.refusal 0) _ _ (answer_short r.block a) (refusal_short a.refusal)
@@ -66,16 +71,20 @@ start_short : (region : List ℕ) (b : Block) (n : ℕ) → Short (first_starts 
 unfolding first_starts
 start_short region b n = either (leb n (length region)) _ _ (block_short b) (omega arith)
 
-open_short : (region : List ℕ) (nm : Named) → Short (first_names region nm)
+open_short : (region : List ℕ) (nm : Option Block) → Short (first_names region nm)
 unfolding first_names
-open_short region Nothing = omega arith
-open_short region (named.Block b) =
+open_short region None = omega arith
+open_short region (Some b) =
     either (eqb (length_answer (machine_of b)).refusal 0) _ _ (start_short region b _) (refusal_short (length_answer (machine_of b)).refusal)
+
+on_short : (region : List ℕ) (r : Run) (k : Option Tick) → Short (goes_with region r k)
+on_short region r (Some k) = tick_short region r k
+on_short region r None = omega arith
 
 pub line_short : (region : List ℕ) (s : Session) (line : List ℕ) → length (line_in region s line).text ≤ 32
 unfolding line_in goes_on
 line_short region Fresh line = open_short region (first_of line)
-line_short region (Running r) line = either (later_of r.block line).ok _ _ (tick_short region r _) (omega arith)
+line_short region (Running r) line = on_short region r (later_of r.block line)
 line_short region Over line = omega arith
 
 -- ---- the end

@@ -6,6 +6,7 @@ use mathlib.Core.Bool.{Bool, true, false, not}
 use borrow.Author.Tests.{ltb-true, ltb-false, lt-leb, le-leb}
 use lib.Dec.{T, leb, ltb}
 use lib.Ieee.{binary64, fits, lt}
+use Rattle.std.specs.Prelude.{Option, Some, None}
 use Rattle.reals.specs.Words.{nearest}
 use Rattle.reals.proofs.Words.{real_fits}
 use Rattle.dynamics.specs.Stepped.{stepped_machine}
@@ -21,11 +22,8 @@ use Rattle.blocks.specs.Named.{named_by}
 use Rattle.blocks.proofs.Names.{each}
 use Rattle.blocks.specs.declared.block.Block.{Block}
 use Rattle.blocks.specs.declared.block.Block.TheVariants.{Pid, PidWithReset, MovingAverage, TimerAccumulating, TrueDelay, TrueFalseHold, TrueHoldWithReset, LogicalVariablePulse}
-use Rattle.blocks.specs.declared.named.Named.{Named}
-use Rattle.blocks.specs.declared.named.Named.TheVariants.{Nothing}
-use Rattle.blocks.specs.declared.named.Named.TheVariants as variant
 use Rattle.lines.specs.Forms.{number_for, form_at}
-use Rattle.lines.specs.Values.{items_of, Words, said, malformed, words_said}
+use Rattle.lines.specs.Values.{items_of, words_said}
 use Rattle.lines.specs.Lines.{named_with, named_in, first_of}
 use Rattle.session.specs.Soak.{too_long}
 
@@ -41,20 +39,20 @@ IsF64 (TrueFalseHold long_true long_false) = Unit {0}
 IsF64 (TrueHoldWithReset duration) = Unit {0}
 IsF64 (LogicalVariablePulse period delta least) = Unit {0}
 
-abbrev pub F64In : Named → Type 0
-F64In (variant.Block b) = IsF64 b
-F64In Nothing = Unit {0}
+abbrev pub F64In : Option Block → Type 0
+F64In (Some b) = IsF64 b
+F64In None = Unit {0}
 
-if_named : (x : Named) → ((b : Block) → x ≡ variant.Block b → IsF64 b) → F64In x
-if_named (variant.Block b) h = h b refl
-if_named Nothing h = tt
+if_named : (x : Option Block) → ((b : Block) → x ≡ Some b → IsF64 b) → F64In x
+if_named (Some b) h = h b refl
+if_named None h = tt
 
 f64_named : (n : ℕ) (w : List ℕ) → F64In (named_by n w)
 f64_named n w = if_named (named_by n w) (each (λ m b. IsF64 b) w tt tt (real_fits _) tt tt tt tt tt n)
 
-f64_said : (n : ℕ) (ws : Words) → F64In (named_with n ws)
-f64_said n (said ws) = f64_named n ws
-f64_said n malformed = tt
+f64_said : (n : ℕ) (ws : Option (List ℕ)) → F64In (named_with n ws)
+f64_said n (Some ws) = f64_named n ws
+f64_said n None = tt
 
 f64_items : (items : List (List ℕ)) → F64In (named_in items)
 f64_items [] = tt

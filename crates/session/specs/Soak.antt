@@ -1,5 +1,5 @@
 -- ALL that soak writes, as a function of all the bytes of its input. Definitions only.
-use Rattle.std.specs.Prelude.{ℕ, ◌+◌, min, List, [], ◌∷◌, ◌++◌, Bool, false, ◌&&◌, cond, eqb}
+use Rattle.std.specs.Prelude.{ℕ, ◌+◌, min, Option, Some, None, List, [], ◌∷◌, ◌++◌, Bool, false, ◌&&◌, cond, eqb}
 use Rattle.std.specs.Float.Ieee.{lt}
 use Rattle.std.specs.Float.Ieee.Scale.{finite}
 use Rattle.reals.specs.Words.{nearest}
@@ -8,10 +8,8 @@ use Rattle.dynamics.specs.Machine.{length_answer}
 use Rattle.dynamics.specs.declared.call.Answer.{Answer}
 use Rattle.blocks.specs.Block.{machine_of, fresh, ticked}
 use Rattle.blocks.specs.declared.block.Block.{Block}
+use Rattle.blocks.specs.declared.block.Tick.{Tick}
 use Rattle.blocks.specs.declared.block.Block.TheVariants.{Pid, PidWithReset, MovingAverage, TimerAccumulating, TrueDelay, TrueFalseHold, TrueHoldWithReset, LogicalVariablePulse}
-use Rattle.blocks.specs.declared.named.Named.{Named}
-use Rattle.blocks.specs.declared.named.Named.TheVariants.{Nothing}
-use Rattle.blocks.specs.declared.named.Named.TheVariants as named
 use Rattle.lines.specs.Lines.{first_of, later_of}
 use Rattle.session.specs.Answers.{bad_text, block_text, refusal_text, counts_text, answer_text}
 
@@ -40,11 +38,19 @@ judged a = cond (eqb a.refusal 0) (accepted a) (refused a.refusal)
 
 module _ (b : Block) where
   -- a line is a tick of the block on its words, or malformed
+  abbrev pub outcome_with : List ℕ → Option Tick → Outcome
+  outcome_with words (Some k) = judged (ticked b k words).emitted
+  outcome_with words None = malformed
+
   unfoldable pub outcome : List ℕ → List ℕ → Outcome
-  outcome words line = let l = later_of b line in cond l.ok (judged (ticked b l.tick words).emitted) malformed
+  outcome words line = outcome_with words (later_of b line)
+
+  abbrev pub left_with : List ℕ → Option Tick → List ℕ
+  left_with words (Some k) = (ticked b k words).left
+  left_with words None = words
 
   unfoldable pub line_leaves : List ℕ → List ℕ → List ℕ
-  line_leaves words line = let l = later_of b line in cond l.ok (ticked b l.tick words).left words
+  line_leaves words line = left_with words (later_of b line)
 
   unfoldable pub outcomes : List ℕ → List (List ℕ) → List Outcome
   outcomes words [] = []
@@ -104,9 +110,9 @@ settings_refusal b = (length_answer (machine_of b)).refusal
 unfoldable pub run_text : Block → List (List ℕ) → List ℕ
 run_text b later = accept (settings_refusal b) (block_text b ++ report b (outcomes b (fresh b) later)) (refusal_text (settings_refusal b))
 
-unfoldable pub named_text : Named → List (List ℕ) → List ℕ
-named_text Nothing later = bad_text
-named_text (named.Block b) later = cond (too_long b) bad_text (run_text b later)
+unfoldable pub named_text : Option Block → List (List ℕ) → List ℕ
+named_text None later = bad_text
+named_text (Some b) later = cond (too_long b) bad_text (run_text b later)
 
 unfoldable pub lines_text : List (List ℕ) → List ℕ
 lines_text [] = bad_text

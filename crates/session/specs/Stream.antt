@@ -1,19 +1,17 @@
 -- How the code goes through its input: what each byte leads to. Definitions only.
-use Rattle.std.specs.Prelude.{ℕ, suc, ◌≤◌, ◌≡◌, List, [], ◌∷◌, ◌++◌, cond, ltb, leb, eqb, length, take, drop, set}
+use Rattle.std.specs.Prelude.{ℕ, suc, ◌≤◌, ◌≡◌, Option, Some, None, List, [], ◌∷◌, ◌++◌, cond, ltb, leb, eqb, length, take, drop, set}
 use Rattle.dynamics.specs.Machine.{length_answer, started_words, tick_answer, updated_words}
 use Rattle.dynamics.specs.declared.call.Answer.{Answer}
 use Rattle.blocks.specs.Block.{machine_of, inputs_of}
 use Rattle.blocks.specs.declared.block.Block.{Block}
 use Rattle.blocks.specs.declared.block.Tick.{Tick}
-use Rattle.blocks.specs.declared.named.Named.{Named}
-use Rattle.blocks.specs.declared.named.Named.TheVariants.{Nothing}
-use Rattle.blocks.specs.declared.named.Named.TheVariants as named
 use Rattle.lines.specs.Lines.{first_of, later_of}
+use Rattle.session.specs.declared.put.Out.{Out}
 use Rattle.session.specs.declared.state.Run.{Run}
 use Rattle.session.specs.declared.state.Session.{Session}
 use Rattle.session.specs.declared.state.Session.TheVariants.{Fresh, Running, Over}
 use Rattle.session.specs.Answers.{bad_text, block_text, refusal_text, counts_text, answer_text}
-use Rattle.session.specs.Put.{Put}
+use Rattle.session.specs.Put.{Put, Puts}
 
 -- ---- a line
 
@@ -46,9 +44,9 @@ module _ (region : List ℕ) where
       })
       (ends bad_text)
 
-  unfoldable pub first_names : Named → Went
-  first_names Nothing = ends bad_text
-  first_names (named.Block b) =
+  unfoldable pub first_names : Option Block → Went
+  first_names None = ends bad_text
+  first_names (Some b) =
       let l = length_answer (machine_of b) in
       cond (eqb l.refusal 0) (first_starts b l.length) (ends (refusal_text l.refusal))
 
@@ -76,10 +74,12 @@ module _ (region : List ℕ) where
       (tick_answered r (renewed n (updated_words (machine_of b) k.time (inputs_of k)) region) (tick_answer (machine_of b) k.time (inputs_of k) (take n region)))
       (ends [])
 
+  abbrev pub goes_with : Run → Option Tick → Went
+  goes_with r (Some k) = tick_goes r k
+  goes_with r None = record { session = Running r; words = region; text = bad_text }
+
   unfoldable pub goes_on : Run → List ℕ → Went
-  goes_on r line =
-      let l = later_of r.block line in
-      cond l.ok (tick_goes r l.tick) (record { session = Running r; words = region; text = bad_text })
+  goes_on r line = goes_with r (later_of r.block line)
 
   unfoldable pub line_in : Session → List ℕ → Went
   line_in Fresh line = first_names (first_of line)
@@ -87,10 +87,10 @@ module _ (region : List ℕ) where
   line_in Over line = ends []
 
 -- what code that takes the step w leaves behind
-pub record Goes (w : Went) (s : Session) (region : List ℕ) (old : List ℕ) (at next : ℕ) (new : List ℕ) : Type 0 where
+pub record Goes (w : Went) (s : Session) (region : List ℕ) (old new : Out) : Type 0 where
   pub session : s ≡ w.session
   pub words : region ≡ w.words
-  pub put : Put old at w.text next new
+  pub put : Puts old w.text new
 
 -- ---- a byte
 

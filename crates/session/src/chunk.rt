@@ -1,10 +1,10 @@
 // The input chunk by chunk, and its end.
-ghost use Rattle.std.specs.Prelude.{◌≡◌, ◌+◌, ◌*◌, ◌/◌, ◌≤◌, min, length, take};
-ghost use Rattle.session.specs.Put.{Put, Counts};
+ghost use Rattle.std.specs.Prelude.{◌≡◌, ◌*◌, ◌/◌, ◌≤◌, min, length, take};
+ghost use Rattle.session.specs.Put.{Counts, HasRoom, Puts};
 ghost use Rattle.session.specs.Stream.{held_more, held_with, at_hand, streamed, Feeds, closing, Finishes};
 
-use crate::answer::{put_bad, put_counts};
 use crate::line::line_in;
+use crate::put::Out;
 use crate::state::Session;
 
 // The longest part of a line that is held: one byte more than a line may have.
@@ -22,17 +22,9 @@ pub struct Fed {
     pub wrote: usize,
 }
 
-fn least(a: usize, b: usize) -> usize
-    ensures at_most_a { result ≤ a }
-    ensures at_most_b { result ≤ b }
-    ensures value { result ≡ min a b }
-{
-    if a < b { a } else { b }
-}
-
 // Holds one more byte of a line. Of a line that is too long no more is held.
-fn hold_byte(carry: &mut [u8], held: usize, b: u8) -> usize
-    requires { length carry.old ≡ 256 }
+#[tactic(auto, unfolding(crate::specs::Stream::held_more, crate::specs::Stream::held_with))]
+fn hold_byte(carry: &mut [u8; 256], held: usize, b: u8) -> usize
     ensures value { result ≡ held_more held }
     ensures carry_after { carry.new ≡ held_with carry.old held b }
 {
@@ -43,45 +35,8 @@ fn hold_byte(carry: &mut [u8], held: usize, b: u8) -> usize
     held
 }
 
-// Takes a whole chunk.
-fn feed_all(
-    session: Session,
-    held: usize,
-    carry: &mut [u8],
-    chunk: &[u8],
-    region: &mut [u64],
-    out: &mut [u8],
-) -> Fed
-    requires { (length carry.old ≡ 256) × (32 * length chunk.now ≤ length out.old) }
-    ensures feeds { Feeds (streamed (at_hand session region.old carry.old held) chunk.now) result.session region.new carry.new result.held out.old result.wrote out.new }
-    ensures used { result.used ≡ length chunk.now }
-    ensures counts { Counts result.wrote out.new }
-{
-    let mut s = session;
-    let mut h = held;
-    let mut at = 0;
-    let mut i = 0;
-    while i < chunk.len() {
-        let b = chunk[i];
-        i += 1;
-        if b == b'\n' {
-            let n = least(h, carry.len());
-            let step = line_in(s, &carry[..n], region, out, at);
-            let next = step.session;
-            s = next;
-            at = step.at;
-            h = 0;
-        } else {
-            h = hold_byte(carry, h, b);
-        }
-    }
-    Fed {
-        session: s,
-        held: h,
-        used: i,
-        wrote: at,
-    }
-}
+// Session, held bytes and region are arguments of their own in `feed` and `finish`, as docs/CONTRACTS.md has the two calls and
+// `feed_once_carry`, `finish_once_region` and the three beside them speak of each.
 
 // Takes as much of a chunk as `out` has room to answer: 32 bytes for each byte. A line that the chunk cuts is held in `carry`.
 pub fn feed(
@@ -96,41 +51,37 @@ pub fn feed(
     ensures feeds { Feeds (streamed (at_hand session region.old carry.old held) (take result.used chunk.now)) result.session region.new carry.new result.held out.old result.wrote out.new }
     ensures counts { Counts result.wrote out.new }
 {
-    let n = least(chunk.len(), out.len() / ROOM);
-    feed_all(session, held, carry, &chunk[..n], region, out)
+    let used = chunk.len().min(out.len() / ROOM);
+    let mut session = session;
+    let mut held = held;
+    let mut out = Out { bytes: out, at: 0 };
+    for &b in &chunk[..used] {
+        if b == b'\n' {
+            let n = held.min(carry.len());
+            session = line_in(session, &carry[..n], region, &mut out);
+            held = 0;
+        } else {
+            held = hold_byte(carry, held, b);
+        }
+    }
+    Fed {
+        session,
+        held,
+        used,
+        wrote: out.at,
+    }
 }
 
 // What ends the output.
-fn put_closing(out: &mut [u8], at: usize, session: Session) -> usize
-    requires { at + 64 ≤ length out.old }
-    ensures { Put out.old at (closing session) result out.new }
+fn put_closing(out: &mut Out<'_>, session: Session)
+    requires { HasRoom out.old 64 }
+    ensures { Puts out.old (closing session) out.new }
 {
     match session {
-        Session::Fresh => put_bad(out, at),
-        Session::Running(run) => put_counts(out, at, run.accepted, run.refused),
-        Session::Over => at,
+        Session::Fresh => out.put_bad(),
+        Session::Running(run) => out.put_counts(run.accepted, run.refused),
+        Session::Over => {}
     }
-}
-
-fn finish_in(
-    session: Session,
-    held: usize,
-    carry: &[u8],
-    region: &mut [u64],
-    out: &mut [u8],
-) -> usize
-    requires { (length carry.now ≡ 256) × (length out.old ≡ 128) }
-    ensures finishes { Finishes (at_hand session region.old carry.now held) region.new out.old result out.new }
-    ensures counts { Counts result out.new }
-{
-    if held == 0 {
-        return put_closing(out, 0, session);
-    }
-    let n = least(held, carry.len());
-    let step = line_in(session, &carry[..n], region, out, 0);
-    let at = step.at;
-    let last = step.session;
-    put_closing(out, at, last)
 }
 
 // Ends the input: answers a line that has no end, and writes the counts. How many bytes were written.
@@ -144,5 +95,13 @@ pub fn finish(
     ensures finishes { Finishes (at_hand session region.old carry.now held) region.new out.old result out.new }
     ensures counts { Counts result out.new }
 {
-    finish_in(session, held, carry, region, out)
+    let mut out = Out { bytes: out, at: 0 };
+    if held == 0 {
+        put_closing(&mut out, session);
+        return out.at;
+    }
+    let n = held.min(carry.len());
+    let last = line_in(session, &carry[..n], region, &mut out);
+    put_closing(&mut out, last);
+    out.at
 }

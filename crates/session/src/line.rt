@@ -1,146 +1,111 @@
-// What soak does with a line.
-ghost use Rattle.std.specs.Prelude.{◌≡◌, ◌+◌, ◌≤◌, length};
+// What soak does with a line. Region and `out` are two arguments: with both in one struct the check does not cover `finish`, where the
+// reference in it would stand at two lifetimes, and does not know what a block leaves in a part of a field's words.
+ghost use Rattle.std.specs.Prelude.{◌≡◌};
+ghost use Rattle.session.specs.Put.{HasRoom};
 ghost use Rattle.session.specs.Stream.{one_more, first_starts, first_names, tick_goes, goes_on, line_in, Goes};
 
-use crate::answer::{put_answer, put_bad, put_block, put_refusal};
+use crate::put::Out;
 use crate::state::{Run, Session};
-use blocks::{Block, Named, Tick};
+use blocks::{Block, Tick};
 use lines::{first_line, later_line};
 
-// The session after a line, and the place after what was written for it.
-#[derive(Clone, Copy)]
-pub struct Step {
-    pub session: Session,
-    pub at: usize,
-}
-
 // One more, up to the largest number.
+#[tactic(auto, unfolding(crate::specs::Stream::one_more))]
 fn one_more(n: u64) -> u64
     ensures { result ≡ one_more n }
 {
-    if n < 0xFFFF_FFFF_FFFF_FFFF { n + 1 } else { n }
+    n.saturating_add(1)
 }
 
 // Starts a block in the first n words of the region.
-fn start_block(block: Block, n: usize, region: &mut [u64], out: &mut [u8], at: usize) -> Step
-    requires { at + 32 ≤ length out.old }
-    ensures { Goes (first_starts region.old block n) result.session region.new out.old at result.at out.new }
+#[tactic(auto, unfolding(crate::specs::Stream::first_starts))]
+fn start_block(block: Block, n: usize, region: &mut [u64], out: &mut Out<'_>) -> Session
+    requires { HasRoom out.old 32 }
+    ensures { Goes (first_starts region.old block n) result region.new out.old out.new }
 {
     if region.len() < n {
-        let bad_end = put_bad(out, at);
-        return Step {
-            session: Session::Over,
-            at: bad_end,
-        };
+        out.put_bad();
+        return Session::Over;
     }
     blocks::start(block, &mut region[..n]);
-    let end = put_block(out, at, block);
-    Step {
-        session: Session::Running(Run {
-            block,
-            accepted: 0,
-            refused: 0,
-        }),
-        at: end,
-    }
+    out.put_block(block);
+    Session::Running(Run {
+        block,
+        accepted: 0,
+        refused: 0,
+    })
 }
 
 // Answers the first line.
-fn open_with(named: Named, region: &mut [u64], out: &mut [u8], at: usize) -> Step
-    requires { at + 32 ≤ length out.old }
-    ensures { Goes (first_names region.old named) result.session region.new out.old at result.at out.new }
+#[tactic(auto, unfolding(crate::specs::Stream::first_names))]
+fn open_with(named: Option<Block>, region: &mut [u64], out: &mut Out<'_>) -> Session
+    requires { HasRoom out.old 32 }
+    ensures { Goes (first_names region.old named) result region.new out.old out.new }
 {
-    let Named::Block(block) = named else {
-        let bad_end = put_bad(out, at);
-        return Step {
-            session: Session::Over,
-            at: bad_end,
-        };
+    let Some(block) = named else {
+        out.put_bad();
+        return Session::Over;
     };
     let length = blocks::state_length(block);
     if length.refusal != 0 {
-        let refused_end = put_refusal(out, at, length.refusal);
-        return Step {
-            session: Session::Over,
-            at: refused_end,
-        };
+        out.put_refusal(length.refusal);
+        return Session::Over;
     }
-    let n = length.length;
-    start_block(block, n, region, out, at)
+    start_block(block, length.length, region, out)
 }
 
 // Runs a tick of the block in the first words of the region.
-fn tick_in(run: Run, tick: Tick, region: &mut [u64], out: &mut [u8], at: usize) -> Step
-    requires { at + 32 ≤ length out.old }
-    ensures { Goes (tick_goes region.old run tick) result.session region.new out.old at result.at out.new }
+#[tactic(auto, unfolding(crate::specs::Stream::tick_goes, crate::specs::Stream::tick_answered), using(crate::proofs::Putting::puts_none))]
+fn tick_in(run: Run, tick: Tick, region: &mut [u64], out: &mut Out<'_>) -> Session
+    requires { HasRoom out.old 32 }
+    ensures { Goes (tick_goes region.old run tick) result region.new out.old out.new }
 {
-    let block = run.block;
-    let length = blocks::state_length(block);
-    let n = length.length;
+    let n = blocks::state_length(run.block).length;
     if region.len() < n {
-        return Step {
-            session: Session::Over,
-            at,
-        };
+        return Session::Over;
     }
-    let answer = blocks::tick(block, tick, &mut region[..n]);
+    let answer = blocks::tick(run.block, tick, &mut region[..n]);
     if answer.refusal != 0 {
-        let refused_end = put_refusal(out, at, answer.refusal);
-        return Step {
-            session: Session::Running(Run {
-                block,
-                accepted: run.accepted,
-                refused: one_more(run.refused),
-            }),
-            at: refused_end,
-        };
+        out.put_refusal(answer.refusal);
+        return Session::Running(Run {
+            refused: one_more(run.refused),
+            ..run
+        });
     }
-    let end = put_answer(out, at, block, answer);
-    Step {
-        session: Session::Running(Run {
-            block,
-            accepted: one_more(run.accepted),
-            refused: run.refused,
-        }),
-        at: end,
-    }
+    out.put_answer(run.block, answer);
+    Session::Running(Run {
+        accepted: one_more(run.accepted),
+        ..run
+    })
 }
 
 // Answers a later line.
-fn go_on(run: Run, line: &[u8], region: &mut [u64], out: &mut [u8], at: usize) -> Step
-    requires { at + 32 ≤ length out.old }
-    ensures { Goes (goes_on region.old run line.now) result.session region.new out.old at result.at out.new }
+#[tactic(auto, unfolding(crate::specs::Stream::goes_on))]
+fn go_on(run: Run, line: &[u8], region: &mut [u64], out: &mut Out<'_>) -> Session
+    requires { HasRoom out.old 32 }
+    ensures { Goes (goes_on region.old run line.now) result region.new out.old out.new }
 {
-    let block = run.block;
-    let later = later_line(block, line);
-    if !later.ok {
-        let bad_end = put_bad(out, at);
-        return Step {
-            session: Session::Running(run),
-            at: bad_end,
-        };
-    }
-    let tick = later.tick;
-    tick_in(run, tick, region, out, at)
+    let Some(tick) = later_line(run.block, line) else {
+        out.put_bad();
+        return Session::Running(run);
+    };
+    tick_in(run, tick, region, out)
 }
 
 // Answers a line.
+#[tactic(auto, unfolding(crate::specs::Stream::line_in), using(crate::proofs::Putting::puts_none))]
 pub(crate) fn line_in(
     session: Session,
     line: &[u8],
     region: &mut [u64],
-    out: &mut [u8],
-    at: usize,
-) -> Step
-    requires { at + 32 ≤ length out.old }
-    ensures { Goes (line_in region.old session line.now) result.session region.new out.old at result.at out.new }
+    out: &mut Out<'_>,
+) -> Session
+    requires { HasRoom out.old 32 }
+    ensures { Goes (line_in region.old session line.now) result region.new out.old out.new }
 {
     match session {
-        Session::Fresh => open_with(first_line(line), region, out, at),
-        Session::Running(run) => go_on(run, line, region, out, at),
-        Session::Over => Step {
-            session: Session::Over,
-            at,
-        },
+        Session::Fresh => open_with(first_line(line), region, out),
+        Session::Running(run) => go_on(run, line, region, out),
+        Session::Over => Session::Over,
     }
 }

@@ -1,15 +1,21 @@
 -- A turn takes all that was read, and what it is to the loop. Assumes nothing.
-use Prim.Native.Nat.{ℕ, ◌+◌, ◌-◌, ◌*◌, ◌/◌, ◌≤◌, ◌<◌, min}
-use mathlib.Core.Path.{◌≡◌, subst}
-use mathlib.Core.List.{List, ◌++◌}
+use Prim.Native.Nat.{ℕ, ◌+◌, ◌*◌, ◌/◌, ◌≤◌, ◌<◌, min}
+use mathlib.Core.Path.{◌≡◌, sym, subst}
+use mathlib.Core.Bool.{false}
+use mathlib.Core.List.{List, [], ◌++◌, append_assoc, append-nil}
 use native.Mathlib.Omega.{arith}
 use lib.ListN.{length, take, length-append, length-take}
 use lib.Seq.{take_all, length-take-le}
+use Rattle.std.proofs.Common.{Option, Result, Ok, Err}
+use Rattle.std.specs.Result.{OnErr, is_ok}
+use Rattle.std.specs.Io.KnownBytes.{Consumes, ReadConsumes}
+use Rattle.std.proofs.KnownBytes.{Consumes-nil, Consumes-kept, Consumes-trans, Appends-trans}
 use Rattle.session.specs.declared.state.Session.{Session}
 use Rattle.session.specs.Stream.{streamed, at_hand, Feeds}
 use Rattle.session.specs.Written.{Written, more}
+use Rattle.soak.specs.declared.turn.State.{State}
 use Rattle.soak.specs.declared.turn.Turn.{Turn}
-use Rattle.soak.specs.Run.{Reached, TurnTaken, Going}
+use Rattle.soak.specs.Run.{At, Reached, TurnTaken, Moves, Stops, Leads, Going}
 
 module _ (s : Session) (held : ℕ) (carry region chunk : List ℕ) (n : ℕ) {used : ℕ} {s' : Session} {region' carry' : List ℕ} {held' : ℕ} {old : List ℕ} {wrote : ℕ} {new : List ℕ}
     (inside : n ≤ length chunk) (room : 32 * length chunk ≤ length old) (takes : used ≡ min (length (take n chunk)) (length old / 32))
@@ -23,22 +29,47 @@ module _ (s : Session) (held : ℕ) (carry region chunk : List ℕ) (n : ℕ) {u
   turn_taken input text w =
       more w (take n chunk) (subst (λ (l : List ℕ). Feeds (streamed (at_hand s region carry held) l) s' region' carry' held' old wrote new) all_taken fed)
 
+-- ---- the states
+
+pub at_of : {input text i t : List ℕ} {s : State} → i ≡ input → t ≡ text → At input text s → At i t s
+at_of {input} {text} {i} {t} {s} e f w = rw (e, f) w
+
+-- whatever a result is, it says this where it is an error
+pub on_err : {T E P : Type 0} (r : Result T E) → P → OnErr r P
+on_err (Ok x) p = tt
+on_err (Err e) p = p
+
+-- a read that failed gave nothing
+keeps_at_err : {E : Type 0} (from from' : Option (List ℕ)) (r : Result ℕ E) (buf : List ℕ) → ReadConsumes from from' r buf → is_ok r ≡ false → Consumes from from' []
+keeps_at_err from from' (Ok n) buf gave failed = (cc)
+keeps_at_err from from' (Err e) buf kept failed = Consumes-kept from from from' [] (Consumes-nil from) kept
+
+-- nothing was taken
+pub none_taken : {E : Type 0} (s : State) (from from' : Option (List ℕ)) (r : Result ℕ E) (chunk out : List ℕ)
+    → ReadConsumes from from' r chunk → is_ok r ≡ false → Stops s s from from' chunk out (record { read = 0; wrote = 0 })
+none_taken s from from' r chunk out gave failed = (λ input text w. at_of (append-nil input) (append-nil text) w, keeps_at_err from from' r chunk gave failed)
+
 -- ---- what a turn is to the loop
-module _ {s : Session} {held : ℕ} {carry region carry' region' : List ℕ} (chunk out : List ℕ) (t : Turn) (taken : TurnTaken s held carry region carry' region' chunk out t)
-    {turns : ℕ} (on : Going turns s held carry region) where
-  -- whatever it read, some input has led to where it ends
-  pub led_on : Reached t.session t.held carry' region'
-  led_on = (on.input ++ take t.read chunk, on.text ++ take t.wrote out, taken on.input on.text on.written)
+
+module _ (old new : State) (chunk out : List ℕ) (t : Turn) (taken : TurnTaken old new chunk out t) where
+  pub leads_on : {first : State} {from from' from'' to to' to'' : Option (List ℕ)}
+      → Leads first old from from' to to' → Moves from' from'' to' to'' chunk out t → Leads first new from from'' to to''
+  leads_on {first} {from} {from'} {from''} {to} {to'} {to''} l m = record {
+    more = l.more ++ take t.read chunk;
+    answer = l.answer ++ take t.wrote out;
+    on = λ input text w. at_of (sym (append_assoc input l.more (take t.read chunk))) (sym (append_assoc text l.answer (take t.wrote out))) (taken _ _ (l.on input text w));
+    reads = Consumes-trans from from' from'' l.more (take t.read chunk) l.reads m.reads;
+    writes = Appends-trans to to' to'' l.answer (take t.wrote out) l.writes m.writes;
+  }
+
+  pub reached_on : {turns : ℕ} → Going turns old → Reached new
+  reached_on on = (on.input ++ take t.read chunk, on.text ++ take t.wrote out, taken on.input on.text on.written)
 
   -- if it read a byte, it is one turn more
-  pub going_on : {more : ℕ} → more ≤ turns + 1 → 0 < length chunk → 0 < t.read → Going more t.session t.held carry' region'
-  going_on one room read = record {
+  pub going_on : {turns : ℕ} → Going turns old → 0 < length chunk → 0 < t.read → Going (turns + 1) new
+  going_on on room read = record {
     input = on.input ++ take t.read chunk;
     text = on.text ++ take t.wrote out;
     written = taken on.input on.text on.written;
-    byte_each = omega (arith, one, on.byte_each, length-append on.input (take t.read chunk), length-take t.read chunk, read, room);
+    byte_each = omega (arith, on.byte_each, length-append on.input (take t.read chunk), length-take t.read chunk, read, room);
   }
-
--- once no turn is left, all were taken
-pub going_all : {turns left : ℕ} {s : Session} {held : ℕ} {carry region : List ℕ} → left ≡ 0 → Going (turns - left) s held carry region → Going turns s held carry region
-going_all none on = record { input = on.input; text = on.text; written = on.written; byte_each = omega (arith, none, on.byte_each) }

@@ -1,42 +1,70 @@
 -- What a turn of the program owes, and what its loop does, with the input read and the text written so far in plain sight. Definitions only.
-use Rattle.std.specs.Prelude.{ℕ, ◌≤◌, ◌≡◌, true, false, List, ◌++◌, length, take}
-use Rattle.session.specs.declared.state.Session.{Session}
+use Rattle.std.specs.Prelude.{ℕ, ◌≤◌, ◌<◌, ◌≡◌, List, [], ◌++◌, length, take, Option, IfSome, Result, Ok, Err}
+use Rattle.std.specs.Io.KnownBytes.{Consumes, Appends, IsAtEnd}
 use Rattle.session.specs.Soak.{soak_of}
 use Rattle.session.specs.Written.{Written}
+use Rattle.soak.specs.declared.turn.State.{State}
 use Rattle.soak.specs.declared.turn.Turn.{Turn}
-use Rattle.soak.specs.declared.Ended.{Ended}
-use Rattle.soak.specs.declared.Ended.TheVariants.{NoMoreInput, CannotRead, CannotWrite, TurnsRanOut}
+use Rattle.soak.specs.declared.Stopped.{Stopped}
+use Rattle.soak.specs.declared.Stopped.TheVariants.{TurnFailed, TurnsRanOut}
+
+-- this input has led here, and this text was written for it
+abbrev pub At : (input text : List ℕ) → State → Type 0
+At input text s = Written input text s.session s.region s.carry s.held
+
+-- nothing was read, and nothing written
+abbrev pub Starts : State → Type 0
+Starts s = At [] [] s
 
 -- some input has led here, and some text was written for it
-abbrev pub Reached : Session → (held : ℕ) (carry region : List ℕ) → Type 0
-Reached s held carry region = (input : List ℕ) × (text : List ℕ) × Written input text s region carry held
+abbrev pub Reached : State → Type 0
+Reached s = (input : List ℕ) × (text : List ℕ) × At input text s
 
 -- whatever input has led here and text was written for it: the bytes read come after the one, and the bytes written after the other
-abbrev pub TurnTaken : Session → (held : ℕ) (carry region carry' region' chunk out : List ℕ) → Turn → Type 0
-TurnTaken s held carry region carry' region' chunk out t =
-    (input text : List ℕ) → Written input text s region carry held
-    → Written (input ++ take t.read chunk) (text ++ take t.wrote out) t.session region' carry' t.held
+abbrev pub TurnTaken : (old new : State) (chunk out : List ℕ) → Turn → Type 0
+TurnTaken old new chunk out t =
+    (input text : List ℕ) → At input text old → At (input ++ take t.read chunk) (text ++ take t.wrote out) new
+
+-- where the bytes are known that a reader has left and a writer holds: the bytes read are the next of the one, no byte is read only at
+-- its end, and the bytes written are the last of the other
+pub record Moves (from from' to to' : Option (List ℕ)) (chunk out : List ℕ) (t : Turn) : Type 0 where
+  pub reads : Consumes from from' (take t.read chunk)
+  pub ends : t.read ≡ 0 → 0 < length chunk → IsAtEnd from'
+  pub writes : Appends to to' (take t.wrote out)
+
+-- a turn that failed: what was read was taken as in a turn that went well, but how much was written is not known
+abbrev pub Stops : (old new : State) (from from' : Option (List ℕ)) (chunk out : List ℕ) → Turn → Type 0
+Stops old new from from' chunk out t = TurnTaken old new chunk out t × Consumes from from' (take t.read chunk)
+
+-- what was read and written leads from one state to the other
+pub record Leads (old new : State) (from from' to to' : Option (List ℕ)) : Type 0 where
+  pub more : List ℕ
+  pub answer : List ℕ
+  pub on : (input text : List ℕ) → At input text old → At (input ++ more) (text ++ answer) new
+  pub reads : Consumes from from' more
+  pub writes : Appends to to' answer
 
 -- a run is at this state after so many turns, each of which read at least a byte
-pub record Going (turns : ℕ) (s : Session) (held : ℕ) (carry region : List ℕ) : Type 0 where
+pub record Going (turns : ℕ) (s : State) : Type 0 where
   pub input : List ℕ
   pub text : List ℕ
-  pub written : Written input text s region carry held
+  pub written : At input text s
   pub byte_each : turns ≤ length input
 
--- a turn in which all went well and nothing was left to read
-pub record Last (t : Turn) : Type 0 where
-  pub nothing : t.read ≡ 0
-  pub is_read : t.is_read ≡ true
-  pub is_written : t.is_written ≡ true
-
--- how no more than so many turns may end: by a turn that found no more input, or that could not read or write; else all of them were taken
-abbrev pub Ends : (turns : ℕ) (carry region : List ℕ) → Ended → Type 0
-Ends turns carry region (NoMoreInput t) = Last t × Reached t.session t.held carry region
-Ends turns carry region (CannotRead t) = t.is_read ≡ false
-Ends turns carry region (CannotWrite t) = t.is_written ≡ false
-Ends turns carry region TurnsRanOut = (s : Session) × (held : ℕ) × Going turns s held carry region
+-- how no more than so many turns may end: by a turn that went well and found no more input, or by one that failed; else all of them were taken
+abbrev pub Ends : (turns : ℕ) (old new : State) (from from' to to' : Option (List ℕ)) → Result Turn Stopped → Type 0
+Ends turns old new from from' to to' (Ok t) = (t.read ≡ 0) × Reached new × IsAtEnd from' × Leads old new from from' to to'
+Ends turns old new from from' to to' (Err (TurnFailed failed)) = Reached new
+Ends turns old new from from' to to' (Err TurnsRanOut) = Going turns new
 
 -- with the last bytes the text is all that soak writes for the input
-abbrev pub Closes : Session → (held : ℕ) (carry region out : List ℕ) (wrote : ℕ) → Type 0
-Closes s held carry region out wrote = (input text : List ℕ) → Written input text s region carry held → text ++ take wrote out ≡ soak_of input
+abbrev pub Closes : State → (out : List ℕ) (wrote : ℕ) → Type 0
+Closes s out wrote = (input text : List ℕ) → At input text s → text ++ take wrote out ≡ soak_of input
+
+-- and where the bytes are known that the writer holds, these are the last of them
+abbrev pub ClosesWith : State → (to to' : Option (List ℕ)) → Type 0
+ClosesWith s to to' = (rest : List ℕ) × Appends to to' rest × ((input text : List ℕ) → At input text s → text ++ rest ≡ soak_of input)
+
+-- where the bytes are known that the reader had and the writer holds: what was written is all that soak writes for all that there was to read
+abbrev pub Answers : (from to to' : Option (List ℕ)) → Type 0
+Answers from to to' = IfSome from (λ input. Appends to to' (soak_of input))

@@ -5,38 +5,20 @@ use mathlib.Core.List.{List, [], ◌∷◌, ◌++◌}
 use mathlib.Core.Bool.{Bool, true, false, cond}
 use native.Mathlib.Nat.{pow-suc}
 use native.Mathlib.Omega.{arith}
-use borrow.Author.Tests.{eq-eqb, ne_eqb, ltb-true, ltb-false}
-use lib.Dec.{ltb, eqb}
+use borrow.Author.Tests.{lt-ltb, le-ltb, ltb-true, ltb-false}
+use lib.Dec.{ltb}
 use lib.ListN.{get_or}
 use Rattle.text.specs.Decimal.{decimal_of, decimal_text}
 
 -- ---- the last digit, and those before it
 
--- the digits that stand before others: those of 0 are none
-unfoldable pub ahead : ℕ → ℕ → List ℕ
-ahead k n = cond (eqb n 0) [] (decimal_of k n)
+pub decimal_few : (k n : ℕ) → n < 10 → decimal_of (suc k) n ≡ (48 + n % 10) ∷ []
+unfolding decimal_of
+decimal_few k n h = let whole : n % 10 ≡ n = omega arith in rw (lt-ltb n 10 h, whole)
 
-pub ahead_none : (k : ℕ) → ahead k 0 ≡ []
-unfolding ahead
-ahead_none k = refl
-
-pub ahead_some : (k n : ℕ) → 0 < n → ahead k n ≡ decimal_of k n
-unfolding ahead
-ahead_some k n h = rw (ne_eqb n 0 (λ z. omega arith))
-
--- the digits of n are those of its tenth and its last one
-pub decimal_last : (k n : ℕ) → decimal_of (suc k) n ≡ ahead k (n / 10) ++ ((48 + n % 10) ∷ [])
-unfolding decimal_of ahead
-decimal_last k n = go (ltb n 10) refl
-  where
-    go : (t : Bool) → ltb n 10 ≡ t
-        → cond t ((48 + n) ∷ []) (decimal_of k (n / 10) ++ ((48 + n % 10) ∷ []))
-        ≡ cond (eqb (n / 10) 0) [] (decimal_of k (n / 10)) ++ ((48 + n % 10) ∷ [])
-    go true e =
-        let h = ltb-true n 10 e in
-        let whole : n % 10 ≡ n = omega arith in
-        rw (eq-eqb (n / 10) 0 (omega arith), whole)
-    go false e = let h = ltb-false n 10 e in rw (ne_eqb (n / 10) 0 (λ z. omega arith))
+pub decimal_more : (k n : ℕ) → 10 ≤ n → decimal_of (suc k) n ≡ decimal_of k (n / 10) ++ ((48 + n % 10) ∷ [])
+unfolding decimal_of
+decimal_more k n h = rw (le-ltb n 10 h)
 
 -- ---- what they say
 

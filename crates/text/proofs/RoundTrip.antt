@@ -10,7 +10,7 @@ use borrow.Author.Tests.{lt-ltb, le-ltb, ltb-true, ltb-false, eqb-true}
 use lib.Arith.{mod-mul}
 use lib.Dec.{ltb, eqb, lit<}
 use lib.ListN.{length}
-use Rattle.text.specs.declared.word.Item.TheVariants.{Word, Bad}
+use Rattle.std.specs.Prelude.{Some, None}
 use Rattle.text.specs.Word.{digit_value, hex_from, word_item, glyph, hex_text, word_text}
 use Rattle.text.specs.Bytes.{bytes, same_list}
 use Rattle.text.specs.Items.{flag_item, flag_text}
@@ -68,30 +68,30 @@ last_digits : (k w : ℕ) → w % (16 ^ k * 16) ≡ w / 16 ^ k % 16 * 16 ^ k + w
 last_digits k w = rw (mul_comm (16 ^ k) 16) (mod-mul w (lit< tt) (sixteen_positive k))
 
 -- the last k digits of w go on from n
-pub read_digits : (k w n : ℕ) → hex_from n (hex_text k w) ≡ Word (n * 16 ^ k + w % 16 ^ k)
+pub read_digits : (k w n : ℕ) → hex_from n (hex_text k w) ≡ Some (n * 16 ^ k + w % 16 ^ k)
 unfolding hex_from hex_text
-read_digits zero w n = ap Word (omega (arith, mod-one w))
+read_digits zero w n = ap Some (omega (arith, mod-one w))
 read_digits (suc k) w n =
     let d : ℕ = w / 16 ^ k % 16 in
     let small : d < 16 = mod-lt (w / 16 ^ k) (lit< tt) in
     rw (value_glyph d small, lt-ltb d 16 small, pow-suc, last_digits k w)
-    (read_digits k w (n * 16 + d) ∙ ap Word (one_more n d (w % 16 ^ k) (16 ^ k)))
+    (read_digits k w (n * 16 + d) ∙ ap Some (one_more n d (w % 16 ^ k) (16 ^ k)))
 
 -- the sixteen digits of a word read back as the word
-pub read_written : (w : ℕ) → w < 2 ^ 64 → word_item (word_text w) ≡ Word w
+pub read_written : (w : ℕ) → w < 2 ^ 64 → word_item (word_text w) ≡ Some w
 unfolding word_item
-read_written w fits = rw length_word (read_digits 16 w 0 ∙ ap Word (omega (arith, mod-eq_of_lt {n = w} {m = 2 ^ 64} fits)))
+read_written w fits = rw length_word (read_digits 16 w 0 ∙ ap Some (omega (arith, mod-eq_of_lt {n = w} {m = 2 ^ 64} fits)))
 
 -- ---- a word, read and written
 
 -- digits that go on from n to v: they are the last ones of v, and n is what stands before them
-pub write_digits : (s : List ℕ) (n v : ℕ) → hex_from n s ≡ Word v → (hex_text (length s) v ≡ s) × (v / 16 ^ length s ≡ n)
+pub write_digits : (s : List ℕ) (n v : ℕ) → hex_from n s ≡ Some v → (hex_text (length s) v ≡ s) × (v / 16 ^ length s ≡ n)
 unfolding hex_from hex_text
 write_digits [] n v e = let same : n ≡ v = cc in (refl, div-one v ∙ sym same)
 write_digits (b ∷ s) n v e = next (ltb (digit_value b) 16) refl e (write_digits s (n * 16 + digit_value b) v)
   where
-    next : (t : Bool) → ltb (digit_value b) 16 ≡ t → cond t (hex_from (n * 16 + digit_value b) s) Bad ≡ Word v
-        → (hex_from (n * 16 + digit_value b) s ≡ Word v → (hex_text (length s) v ≡ s) × (v / 16 ^ length s ≡ n * 16 + digit_value b))
+    next : (t : Bool) → ltb (digit_value b) 16 ≡ t → cond t (hex_from (n * 16 + digit_value b) s) None ≡ Some v
+        → (hex_from (n * 16 + digit_value b) s ≡ Some v → (hex_text (length s) v ≡ s) × (v / 16 ^ length s ≡ n * 16 + digit_value b))
         → (glyph (v / 16 ^ length s % 16) ∷ hex_text (length s) v ≡ b ∷ s) × (v / 16 ^ suc (length s) ≡ n)
     next true t e more =
         let small : digit_value b < 16 = ltb-true _ _ t in
@@ -101,18 +101,18 @@ write_digits (b ∷ s) n v e = next (ltb (digit_value b) 16) refl e (write_digit
           rw (rest.0, digit, glyph_value b small),
           rw (pow-suc, ← div-div-eq-div-mul v (16 ^ length s) 16) above,
         )
-    next false t e more = let z : ◌≡◌ {A = ℕ} 0 1 = cc in absurd (omega arith)
+    next false t e more = cc
 
 -- what reads as a word is sixteen digits
-word_digits : (s : List ℕ) (w : ℕ) → word_item s ≡ Word w → (length s ≡ 16) × (hex_from 0 s ≡ Word w)
+word_digits : (s : List ℕ) (w : ℕ) → word_item s ≡ Some w → (length s ≡ 16) × (hex_from 0 s ≡ Some w)
 unfolding word_item
 word_digits s w e = go (eqb (length s) 16) refl e
   where
-    go : (t : Bool) → eqb (length s) 16 ≡ t → cond t (hex_from 0 s) Bad ≡ Word w → (length s ≡ 16) × (hex_from 0 s ≡ Word w)
+    go : (t : Bool) → eqb (length s) 16 ≡ t → cond t (hex_from 0 s) None ≡ Some w → (length s ≡ 16) × (hex_from 0 s ≡ Some w)
     go true t e = (eqb-true (length s) 16 t, e)
-    go false t e = let z : ◌≡◌ {A = ℕ} 0 1 = cc in absurd (omega arith)
+    go false t e = cc
 
-module _ (s : List ℕ) (w : ℕ) (reads : word_item s ≡ Word w) where
+module _ (s : List ℕ) (w : ℕ) (reads : word_item s ≡ Some w) where
   -- they are the digits of that word
   pub written_read : word_text w ≡ s
   written_read =
@@ -128,18 +128,18 @@ module _ (s : List ℕ) (w : ℕ) (reads : word_item s ≡ Word w) where
 -- ---- a boolean
 
 -- the digit of a boolean reads back as its word
-pub read_flag_written : (f : Bool) → flag_item (flag_text f) ≡ Word (cond f 1 0)
+pub read_flag_written : (f : Bool) → flag_item (flag_text f) ≡ Some (cond f 1 0)
 unfolding flag_item same_list
 read_flag_written true = refl
 read_flag_written false = refl
 
 -- what reads as a boolean is the digit 0 or 1
-pub flag_read : (s : List ℕ) (w : ℕ) → flag_item s ≡ Word w → ((w ≡ 0) × (s ≡ flag_text false)) ⊎ ((w ≡ 1) × (s ≡ flag_text true))
+pub flag_read : (s : List ℕ) (w : ℕ) → flag_item s ≡ Some w → ((w ≡ 0) × (s ≡ flag_text false)) ⊎ ((w ≡ 1) × (s ≡ flag_text true))
 unfolding flag_item
 flag_read s w e = go (same_list s (bytes "0")) (same_list s (bytes "1")) refl refl e
   where
-    go : (t u : Bool) → same_list s (bytes "0") ≡ t → same_list s (bytes "1") ≡ u → cond t (Word 0) (cond u (Word 1) Bad) ≡ Word w
+    go : (t u : Bool) → same_list s (bytes "0") ≡ t → same_list s (bytes "1") ≡ u → cond t (Some 0) (cond u (Some 1) None) ≡ Some w
         → ((w ≡ 0) × (s ≡ flag_text false)) ⊎ ((w ≡ 1) × (s ≡ flag_text true))
     go true u p q e = inl (cc, same_equal s _ p)
     go false true p q e = inr (cc, same_equal s _ q)
-    go false false p q e = let z : ◌≡◌ {A = ℕ} 0 1 = cc in absurd (omega arith)
+    go false false p q e = cc

@@ -1,24 +1,23 @@
 -- A number spelled from its last digit on.
 use Prim.Native.Nat.{ℕ, zero, suc, ◌+◌, ◌-◌, ◌/◌, ◌%◌, ◌^◌, ◌<◌}
-use mathlib.Core.Path.{◌≡◌, refl, sym, ap, ◌∙◌}
-use mathlib.Core.List.{List, ◌∷◌, ◌++◌}
+use mathlib.Core.Path.{◌≡◌, refl, sym, ap, subst, ◌∙◌}
+use mathlib.Core.List.{List, ◌∷◌, ◌++◌, append-nil}
 use native.Mathlib.Nat.{pow-suc}
 use native.Mathlib.Omega.{arith}
-use borrow.Author.Rules.{part_to_end}
-use lib.Dec.{lit<}
-use lib.ListN.{length, take, drop, set, replicate, length-set, length-drop, length-replicate, length-append, take-append-drop}
-use lib.Seq.{append_snoc, drop_at, drop-cons, drop-set-lt, lt-length-set, get_or-set_same, take-set-le, take-take}
-use Rattle.text.specs.declared.decimal.Decimal.{Decimal}
-use Rattle.text.specs.Decimal.{decimal_text, Spelled}
-use Rattle.text.proofs.Decimals.{ahead, ahead_none, ahead_some, decimal_last}
+use lib.ListN.{length, take, drop, set, replicate, length-set, length-drop}
+use lib.Seq.{append_snoc, drop-cons, drop-set-lt, lt-length-set, get_or-set_same, take-set-le, take-take}
+use Rattle.text.specs.declared.decimal.Decimal.TheInside.{Inside}
+use Rattle.text.specs.Decimal.{decimal_of, decimal_text, counting, Padded, Spelled}
+use Rattle.text.proofs.Padding.{padded_start}
+use Rattle.text.proofs.Decimals.{decimal_few, decimal_more}
 
 -- of twenty places those from `start` on are spelled, and before them come zeros and the digits of `rest`
 pub record Spelling (n : ℕ) (digits : List ℕ) (start rest : ℕ) : Type 0 where
   pub size : length digits ≡ 20
-  pub within : start < 20
   pub room : rest < 10 ^ start
+  pub some : start < 20 → 0 < rest
   pub zeros : take start digits ≡ replicate start 48
-  pub whole : ahead start rest ++ drop start digits ≡ decimal_text n
+  pub whole : decimal_of start rest ++ drop start digits ≡ decimal_text n
 
 -- a digit put in front of those from k on
 put_ahead : (digits : List ℕ) (k d : ℕ) → k < length digits → drop k (set digits k d) ≡ d ∷ drop (suc k) digits
@@ -31,73 +30,74 @@ one_fewer : (k x : ℕ) → take k (replicate (suc k) x) ≡ replicate k x
 one_fewer zero x = refl
 one_fewer (suc k) x = ap (λ (l : List ℕ). x ∷ l) (one_fewer k x)
 
--- only the last digit is put
-pub spelling_last : (n : ℕ) → n < 2 ^ 64 → Spelling n (set (replicate 20 48) 19 (48 + n % 10)) 19 (n / 10)
-spelling_last n h = record {
+-- no digit is put
+pub spelling_none : (n : ℕ) → n < 2 ^ 64 → Spelling n (replicate 20 48) 20 n
+spelling_none n h = record {
   size = refl;
-  within = lit< tt;
   room = omega arith;
+  some = λ l. omega (arith, l);
   zeros = refl;
-  whole = sym (decimal_last 19 n);
+  whole = append-nil (decimal_text n);
 }
 
--- one more digit
-module _ (n : ℕ) (digits : List ℕ) (k rest : ℕ) (s : Spelling n digits (suc k) rest) (some : 0 < rest) where
-  pub spelling_next : Spelling n (set digits k (48 + rest % 10)) k (rest / 10)
-  spelling_next =
+-- a place is left
+pub spelling_left : {n : ℕ} {digits : List ℕ} {start rest : ℕ} → Spelling n digits start rest → 0 < start → Spelling n digits (suc (start - 1)) rest
+spelling_left {n} {digits} {start} {rest} s h =
+    let e : start ≡ suc (start - 1) = omega arith in
+    subst (λ (m : ℕ). Spelling n digits m rest) e s
+
+module _ {n : ℕ} {digits : List ℕ} {k rest : ℕ} (s : Spelling n digits (suc k) rest) (within : k < 20) where
+  -- one more digit, and before it zeros
+  pub spelling_zeros : take k (set digits k (48 + rest % 10)) ≡ replicate k 48
+  spelling_zeros =
+      take-set-le k digits k (48 + rest % 10) (omega arith)
+      ∙ sym (take-take k (suc k) digits (omega arith))
+      ∙ ap (take k) s.zeros
+      ∙ one_fewer k 48
+
+  -- it is not the last
+  pub spelling_next : 0 < rest / 10 → Spelling n (set digits k (48 + rest % 10)) k (rest / 10)
+  spelling_next more =
       let h : k < length digits = omega arith in
-      let d : ℕ = 48 + rest % 10 in
       record {
         size = simp length-set s.size;
-        within = omega arith;
         room = omega (arith, rw (pow-suc 10 k) at s.room);
-        zeros =
-            take-set-le k digits k d (omega arith)
-            ∙ sym (take-take k (suc k) digits (omega arith))
-            ∙ ap (take k) s.zeros
-            ∙ one_fewer k 48;
+        some = λ l. more;
+        zeros = spelling_zeros;
         whole =
-            ap (λ (l : List ℕ). ahead k (rest / 10) ++ l) (put_ahead digits k d h)
-            ∙ sym (append_snoc (ahead k (rest / 10)) d (drop (suc k) digits))
-            ∙ ap (λ (l : List ℕ). l ++ drop (suc k) digits) (sym (decimal_last k rest) ∙ sym (ahead_some (suc k) rest some))
+            ap (λ (l : List ℕ). decimal_of k (rest / 10) ++ l) (put_ahead digits k (48 + rest % 10) h)
+            ∙ sym (append_snoc (decimal_of k (rest / 10)) (48 + rest % 10) (drop (suc k) digits))
+            ∙ ap (λ (l : List ℕ). l ++ drop (suc k) digits) (sym (decimal_more k rest (omega arith)))
             ∙ s.whole;
       }
 
--- what is still to be spelled has a place
-pub spelling_room : (n : ℕ) (digits : List ℕ) (start rest : ℕ) → Spelling n digits start rest → 0 < rest → 0 < start
-spelling_room n digits zero rest s h = absurd (omega (arith, s.room))
-spelling_room n digits (suc k) rest s h = omega arith
+  -- it is
+  pub spelling_last : rest / 10 ≡ 0 → drop k (set digits k (48 + rest % 10)) ≡ decimal_text n
+  spelling_last none =
+      let h : k < length digits = omega arith in
+      put_ahead digits k (48 + rest % 10) h
+      ∙ ap (λ (l : List ℕ). l ++ drop (suc k) digits) (sym (decimal_few k rest (omega arith)))
+      ∙ s.whole
 
--- nothing is still to be spelled
-pub spelling_end : (n : ℕ) (digits : List ℕ) (start rest : ℕ) → Spelling n digits start rest → rest ≡ 0
-    → Spelled n (record { digits = digits; start = start })
-spelling_end n digits start rest s none =
-    let spelled : drop start digits ≡ decimal_text n = rw (none, ahead_none) at s.whole in
-    record {
-      digits = sym (take-append-drop start digits) ∙ rw (s.zeros, spelled);
-      all = omega (arith, ap length spelled, length-drop start digits);
-    }
+-- a number is spelled before there is no place left
+pub spelling_room : {n : ℕ} {digits : List ℕ} {start rest : ℕ} → Spelling n digits start rest → start ≡ 0 → ⊥
+spelling_room s none = omega (arith, rw none at s.room, s.some (omega arith))
 
--- from where the first digit that counts stands on, there is the number's text
-pub spelled_text : {n : ℕ} {d : Decimal} → Spelled n d → drop d.start d.digits ≡ decimal_text n
-spelled_text {n} {d} s = rw s.digits (drop_at (replicate d.start 48) (decimal_text n) d.start (length-replicate d.start 48))
+-- ---- what holds of every value of the type
 
-pub spelled_length : {n : ℕ} {d : Decimal} → Spelled n d → length d.digits ≡ 20
-spelled_length {n} {d} s = rw s.digits (length-append (replicate d.start 48) (decimal_text n) ∙ omega (arith, length-replicate {A = ℕ} d.start 48, s.all))
+-- if the digits that count are those of n, they stand behind zeros, twenty in all
+pub spelled : {n : ℕ} {d : Inside} → Padded d → counting d ≡ decimal_text n → Spelled n d
+spelled {n} {d} p is = record {
+  digits = sym (ap (λ (e : Inside). e.digits) p.again) ∙ ap (λ (k : ℕ). replicate k 48 ++ counting d) (padded_start p) ∙ rw is;
+  all = omega (arith, ap length is, length-drop d.start d.digits, p.all, padded_start p);
+}
 
--- the same, as a part that ends with the last digit
-pub spelled_part : {n : ℕ} {d : Decimal} → Spelled n d → take (20 - d.start) (drop d.start d.digits) ≡ decimal_text n
-spelled_part {n} {d} s =
-    ap (λ (k : ℕ). take (k - d.start) (drop d.start d.digits)) (sym (spelled_length s))
-    ∙ part_to_end d.digits d.start
-    ∙ spelled_text s
-
--- the contract admits one result only
-pub spelled_once : {n : ℕ} {d e : Decimal} → Spelled n d → Spelled n e → d ≡ e
+-- and only one value has such
+pub spelled_once : {n : ℕ} {d e : Inside} → Spelled n d → Spelled n e → d ≡ e
 spelled_once {n} {d} {e} s t =
     let same : d.start ≡ e.start = omega (arith, s.all, t.all) in
-    ap (λ (l : List ℕ). spelled l d.start) (s.digits ∙ ap (λ (k : ℕ). replicate k 48 ++ decimal_text n) same ∙ sym t.digits)
-    ∙ ap (spelled e.digits) same
+    ap (λ (l : List ℕ). made l d.start) (s.digits ∙ ap (λ (k : ℕ). replicate k 48 ++ decimal_text n) same ∙ sym t.digits)
+    ∙ ap (made e.digits) same
   where
-    spelled : List ℕ → ℕ → Decimal
-    spelled l k = record { digits = l; start = k }
+    made : List ℕ → ℕ → Inside
+    made l k = record { digits = l; start = k }

@@ -1,7 +1,5 @@
 -- A word as text: sixteen upper-case hexadecimal digits. Definitions only.
-use Rattle.std.specs.Prelude.{ℕ, zero, suc, ◌+◌, ◌-◌, ◌*◌, ◌/◌, ◌%◌, ◌^◌, List, [], ◌∷◌, cond, length, ltb, eqb}
-use Rattle.text.specs.declared.word.Item.{Item}
-use Rattle.text.specs.declared.word.Item.TheVariants.{Word, Bad}
+use Rattle.std.specs.Prelude.{ℕ, Option, Some, None, zero, suc, ◌+◌, ◌-◌, ◌*◌, ◌/◌, ◌%◌, ◌^◌, List, [], ◌∷◌, cond, length, ltb, eqb}
 
 -- ---- read
 
@@ -11,13 +9,13 @@ digit_value b =
     cond (ltb b 48) 16 (cond (ltb b 58) (b - 48) (cond (ltb b 65) 16 (cond (ltb b 71) (b - 55) 16)))
 
 -- the number that the digits s continue, n being the number so far
-unfoldable pub hex_from : ℕ → List ℕ → Item
-hex_from n [] = Word n
-hex_from n (b ∷ s) = cond (ltb (digit_value b) 16) (hex_from (n * 16 + digit_value b) s) Bad
+unfoldable pub hex_from : ℕ → List ℕ → Option ℕ
+hex_from n [] = Some n
+hex_from n (b ∷ s) = cond (ltb (digit_value b) 16) (hex_from (n * 16 + digit_value b) s) None
 
 -- a word: sixteen digits
-unfoldable pub word_item : List ℕ → Item
-word_item s = cond (eqb (length s) 16) (hex_from 0 s) Bad
+unfoldable pub word_item : List ℕ → Option ℕ
+word_item s = cond (eqb (length s) 16) (hex_from 0 s) None
 
 -- ---- written
 

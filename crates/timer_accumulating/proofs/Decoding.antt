@@ -1,48 +1,23 @@
 -- `TimerAccumulating` as the laws of blocks with a state record take it. Assumes nothing.
+use Rattle.std.specs.Prelude.{None}
 use mathlib.Core.Path.{◌≡◌, refl}
 use mathlib.Core.List.{[]}
 use Prim.Native.Nat.{ℕ}
-use native.Mathlib.Omega.{arith}
 use lib.ListN.{length}
 use lib.Dec.{T}
 use lib.Ieee.{binary64, fits, of_bits}
 use Rattle.reals.proofs.Words.{real_word, flag_back}
 use Rattle.dynamics.specs.Previous.{previous_of, word_of_previous}
-use Rattle.dynamics.specs.declared.previous.Previous.TheVariants.{Unset}
 use Rattle.dynamics.specs.Sound.{StaysSound}
-use Rattle.dynamics.proofs.Opening.{Enum}
-use Rattle.dynamics.proofs.Steps.{Opens}
 use Rattle.dynamics.proofs.Steps as steps
-use Rattle.timer_accumulating.specs.TimerAccumulating.{next, advance, state_of, words_of, initial, block, machine, zeros, reads}
+use Rattle.timer_accumulating.specs.TimerAccumulating.{next, advance, state_of, words_of, initial, block, machine, zeros, counted}
 use Rattle.timer_accumulating.specs.declared.TimerAccumulating.{TimerAccumulating}
 use Rattle.timer_accumulating.specs.declared.state.State.{State}
-use Rattle.timer_accumulating.specs.declared.state.Decoded.{Decoded}
-use Rattle.timer_accumulating.specs.declared.state.Decoded.TheVariants.{Refused}
-use Rattle.timer_accumulating.specs.declared.state.Decoded.TheVariants as variant
-
-pub apart : (s : State) (n : ℕ) → variant.State s ≡ Refused n → ⊥
-apart s n e = let z : ◌≡◌ {A = ℕ} 0 1 = cc in omega arith
 
 -- the record of zeros is what words of 0 mean
 pub zeros_mean : state_of [] ≡ zeros
 unfolding state_of previous_of of_bits
 zeros_mean = refl
-
-abbrev pub decoded : Enum State Decoded
-decoded = record {
-  state = variant.State;
-  refused = Refused;
-  zeros = zeros;
-  reads = reads;
-  reads_state = λ s. refl;
-  reads_refused = λ n. refl;
-  apart = apart;
-}
-
--- a state has five words
-pub counted : (b : TimerAccumulating) (s : State) → length (words_of s) ≡ 5
-unfolding words_of
-counted b s = refl
 
 -- a state of f64 numbers is read back as it was stored
 pub read_back : (s : State) → T (fits binary64 s.total) → previous_of (word_of_previous s.previous) ≡ s.previous → state_of (words_of s) ≡ s
@@ -50,13 +25,10 @@ unfolding state_of words_of
 read_back s total time = simp (real_word s.total total, time, flag_back)
 
 -- a fresh one is read back with its previous time unset
-pub fresh_unset : (b : TimerAccumulating) → (state_of (words_of (initial b))).previous ≡ Unset
+pub fresh_unset : (b : TimerAccumulating) → (state_of (words_of (initial b))).previous ≡ None
 unfolding words_of state_of previous_of
 fresh_unset b = refl
 
-abbrev pub timer : Opens TimerAccumulating State Decoded
-timer = record { enum = decoded; block = block; counted = counted; fresh_unset = fresh_unset }
-
 -- a fresh start is sound, and each call keeps a sound region sound
 pub stays_sound : (b : TimerAccumulating) → StaysSound (machine b)
-stays_sound b = steps.stays_sound timer b (λ s time i e. unfold advance next words_of state_of in e)
+stays_sound b = steps.stays_sound (block b) (counted b) (fresh_unset b) (λ s time i e. unfold advance next words_of state_of in e)

@@ -3,4 +3,3 @@ pub mod Cases
 pub mod Decoding
 pub mod Wiping
 pub mod TwoRegions
-pub mod OneResult

@@ -1,4 +1,5 @@
 -- Demand 3 for `TimerAccumulating`: its steps keep its account. Assumes nothing.
+use Rattle.std.specs.Prelude.{None, Some}
 use mathlib.Core.Path.{◌≡◌, refl, sym, ap, ◌∙◌}
 use mathlib.Core.Bool.{Bool, true, false, not, ◌&&◌, cond}
 use mathlib.Core.List.{List}
@@ -13,7 +14,6 @@ use Rattle.dynamics.specs.Leaves.{rising}
 use Rattle.dynamics.specs.Machine.{Tick}
 use Rattle.dynamics.specs.Stepped.{stepped_machine}
 use Rattle.dynamics.specs.History.{History, started, wiped, followed, previous_in, refused_after, grown, RetoldFromWiping, AlikeFromWiping, AnswersWiping, RetoldFromStart}
-use Rattle.dynamics.specs.declared.previous.Previous.TheVariants.{Unset, At}
 use Rattle.dynamics.proofs.Gaps.{zero_nonneg, zero_f64, either, sum_nonneg, sum_keeps}
 use Rattle.dynamics.proofs.Histories.{WipedWords, Kept, newest_grown, time_back, grown_sound, from_wiping, from_start, alike, answers_wiping}
 use Rattle.timer_accumulating.specs.TimerAccumulating.{machine, y_now, passed_now, next, advance, state_of, words_of, outputs}
@@ -96,7 +96,7 @@ module _ (k : Tick) (h : History) (g : Good h) (ok : refused_after k h ≡ 0) wh
     unfolding advance next state_after
     state_next = rw held (λ i. record {
       total = total_next i;
-      previous = sym (newest_grown Unset (λ (j : Tick). At j.time) wipes k h) i;
+      previous = sym (newest_grown None (λ (j : Tick). Some j.time) wipes k h) i;
       input = sym (newest_grown false input_of wipes k h) i;
       reset = sym (newest_grown false reset_of wipes k h) i;
       passed = (ap (λ (x : Float). passed_now b (state_after b h) (input_of k) (wipes k h) x) total_next ∙ passed_next) i;

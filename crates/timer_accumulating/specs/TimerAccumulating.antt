@@ -1,5 +1,5 @@
 -- `TimerAccumulating`: accumulated true-time, cleared by a rising reset. Definitions only.
-use Rattle.std.specs.Prelude.{ℕ, Bool, true, false, not, ◌&&◌, cond, List, [], ◌∷◌, get_or, Float}
+use Rattle.std.specs.Prelude.{ℕ, ◌≡◌, refl, length, Bool, true, false, not, ◌&&◌, cond, List, [], ◌∷◌, get_or, Float, None, Some}
 use Rattle.std.specs.Float.Ieee.{le}
 use Rattle.std.specs.Float.Ieee.Scale.{finite}
 use Rattle.reals.specs.Words.{0·0, real_of, word_of, flag_of, word_of_flag}
@@ -7,15 +7,11 @@ use Rattle.reals.specs.Arithmetic.{◌⊕◌}
 use Rattle.dynamics.specs.Previous.{previous_of, word_of_previous, gap, is_first}
 use Rattle.dynamics.specs.Leaves.{rising}
 use Rattle.dynamics.specs.Answer.{Outputs, both_outputs}
-use Rattle.dynamics.specs.Machine.{Machine, Reading}
-use Rattle.dynamics.specs.Stepped.{Stepped, stepped_machine, opened_as}
+use Rattle.dynamics.specs.Machine.{Machine}
+use Rattle.dynamics.specs.Stepped.{Stepped, stepped_machine}
 use Rattle.dynamics.specs.declared.call.Inputs.{Inputs}
-use Rattle.dynamics.specs.declared.previous.Previous.TheVariants.{Unset, At}
 use Rattle.timer_accumulating.specs.declared.TimerAccumulating.{TimerAccumulating}
 use Rattle.timer_accumulating.specs.declared.state.State.{State}
-use Rattle.timer_accumulating.specs.declared.state.Decoded.{Decoded}
-use Rattle.timer_accumulating.specs.declared.state.Decoded.TheVariants.{Refused}
-use Rattle.timer_accumulating.specs.declared.state.Decoded.TheVariants as variant
 
 -- ---- the step
 
@@ -43,7 +39,7 @@ unfoldable pub next : TimerAccumulating → State → Float → Bool → Bool �
 next b s time input reset =
     let wipes = rising reset s.reset in
     let y = y_now s time input wipes in
-    record { total = y; previous = At time; input = input; reset = reset; passed = passed_now b s input wipes y }
+    record { total = y; previous = Some time; input = input; reset = reset; passed = passed_now b s input wipes y }
 
 -- a tick's two inputs are its first words
 unfoldable pub advance : TimerAccumulating → State → Float → Inputs → State
@@ -70,7 +66,7 @@ settings_accepted b = finite b.t
 
 -- passed is t <= 0; the rest zero
 abbrev pub initial : TimerAccumulating → State
-initial b = record { total = 0·0; previous = Unset; input = false; reset = false; passed = le b.t 0·0 }
+initial b = record { total = 0·0; previous = None; input = false; reset = false; passed = le b.t 0·0 }
 
 -- the outputs of a tick are the total and passed after it
 abbrev pub outputs : State → Outputs
@@ -91,15 +87,11 @@ block b = record {
 abbrev pub machine : TimerAccumulating → Machine
 machine b = stepped_machine (block b)
 
--- ---- a region taken apart, by the refusal number of the call
+-- a state has as many words
+pub counted : (b : TimerAccumulating) (s : State) → length ((block b).words_of s) ≡ (block b).size
+unfolding words_of
+counted b s = refl
 
-abbrev pub opened : ℕ → List ℕ → Decoded
-opened n w = opened_as variant.State Refused n (state_of w)
-
--- what each case stands for: its number, and the state or the record of zeros
+-- the record of zeros, for which a refused decode stands
 abbrev pub zeros : State
-zeros = record { total = 0·0; previous = At 0·0; input = false; reset = false; passed = false }
-
-abbrev pub reads : Decoded → Reading State
-reads (variant.State s) = record { refusal = 0; state = s }
-reads (Refused n) = record { refusal = n; state = zeros }
+zeros = record { total = 0·0; previous = Some 0·0; input = false; reset = false; passed = false }

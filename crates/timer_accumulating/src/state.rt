@@ -1,21 +1,16 @@
 // The timer's state, and its five words in a region.
-ghost use Rattle.std.specs.Prelude.{◌≡◌};
-ghost use Rattle.dynamics.specs.Region.{stored};
-ghost use Rattle.timer_accumulating.specs.TimerAccumulating.{state_of, words_of, reads};
-
-use dynamics::{Previous, flag_at, previous_at, real_at, store, word_of_previous};
-use reals::{word_of, word_of_flag};
+use dynamics::Previous;
 
 // Which word is which.
-const ACC_WORD: usize = 0;
+pub(crate) const ACC_WORD: usize = 0;
 
-const PREV_T_WORD: usize = 1;
+pub(crate) const PREV_T_WORD: usize = 1;
 
-const PREV_U_WORD: usize = 2;
+pub(crate) const PREV_U_WORD: usize = 2;
 
-const PREV_RESET_WORD: usize = 3;
+pub(crate) const PREV_RESET_WORD: usize = 3;
 
-const PASSED_WORD: usize = 4;
+pub(crate) const PASSED_WORD: usize = 4;
 
 // How many words its region has.
 pub const STATE_LEN: usize = 5;
@@ -28,49 +23,4 @@ pub struct State {
     pub input: bool,
     pub reset: bool,
     pub passed: bool,
-}
-
-// A region taken apart: its state, or why it has none.
-#[derive(Clone, Copy)]
-pub enum Decoded {
-    State(State),
-    Refused(u64),
-}
-
-// The refusal number; 0 for a state.
-pub fn number_of(d: Decoded) -> u64
-    ensures { result ≡ (reads d).refusal }
-{
-    match d {
-        Decoded::State(_) => 0,
-        Decoded::Refused(n) => n,
-    }
-}
-
-// What a region's words mean.
-pub(crate) fn state_of(region: &[u64]) -> State
-    ensures { result ≡ state_of region.now }
-{
-    State {
-        total: real_at(region, ACC_WORD),
-        previous: previous_at(region, PREV_T_WORD),
-        input: flag_at(region, PREV_U_WORD),
-        reset: flag_at(region, PREV_RESET_WORD),
-        passed: flag_at(region, PASSED_WORD),
-    }
-}
-
-// Stores a state in a region of its length.
-pub(crate) fn write(region: &mut [u64], s: State)
-    ensures { region.new ≡ stored region.old (words_of s) }
-{
-    let previous = s.previous;
-    let words = [
-        word_of(s.total),
-        word_of_previous(previous),
-        word_of_flag(s.input),
-        word_of_flag(s.reset),
-        word_of_flag(s.passed),
-    ];
-    store(region, &words);
 }

@@ -4,15 +4,14 @@ ghost use Rattle.timer_accumulating.specs.TimerAccumulating.{counts, y_now, pass
 
 use crate::TimerAccumulating;
 use crate::state::State;
-use dynamics::{Inputs, Previous, is_first_tick, is_rising, tick_dt};
+use dynamics::{Inputs, is_first_tick, is_rising, tick_dt};
 use reals::flag_of;
 
 // Whether the gap that this tick ends counts.
 fn gap_counts(s: State, input: bool) -> bool
     ensures { result ≡ counts s input }
 {
-    let previous = s.previous;
-    !is_first_tick(previous) & (s.input & input)
+    !is_first_tick(s.previous) & (s.input & input)
 }
 
 // The total as of this tick, which may wipe it.
@@ -23,8 +22,7 @@ fn y_now(s: State, time: f64, input: bool, wipes: bool) -> f64
         return 0.0;
     }
     if gap_counts(s, input) {
-        let previous = s.previous;
-        return s.total + tick_dt(time, previous);
+            return s.total + tick_dt(time, s.previous);
     }
     s.total
 }
@@ -46,7 +44,7 @@ fn passed_now(settings: TimerAccumulating, s: State, input: bool, wipes: bool, y
 }
 
 // The state after this tick.
-pub(crate) fn step(settings: TimerAccumulating, s: State, time: f64, inputs: Inputs) -> State
+pub(crate) fn advance(settings: TimerAccumulating, s: State, time: f64, inputs: Inputs) -> State
     ensures { result ≡ advance settings s time inputs }
 {
     let input = flag_of(inputs.first);
@@ -55,7 +53,7 @@ pub(crate) fn step(settings: TimerAccumulating, s: State, time: f64, inputs: Inp
     let y = y_now(s, time, input, wipes);
     State {
         total: y,
-        previous: Previous::At(time),
+        previous: Some(time),
         input,
         reset,
         passed: passed_now(settings, s, input, wipes, y),

@@ -1,4 +1,5 @@
 -- Demand 3 for `TrueDelay`: its steps keep its account. Assumes nothing.
+use Rattle.std.specs.Prelude.{None, Some}
 use mathlib.Core.Path.{◌≡◌, refl, sym, ap, ◌∙◌}
 use mathlib.Core.Bool.{Bool, true, false, not, ◌&&◌, ◌||◌, cond, true≢false}
 use mathlib.Core.List.{List}
@@ -16,7 +17,6 @@ use Rattle.dynamics.specs.Leaves.{positive_duration, timed}
 use Rattle.dynamics.specs.Machine.{Tick}
 use Rattle.dynamics.specs.Stepped.{stepped_machine}
 use Rattle.dynamics.specs.History.{History, started, wiped, followed, previous_in, refused_after, grown, RetoldFromWiping, AlikeFromWiping, AnswersWiping, RetoldFromStart}
-use Rattle.dynamics.specs.declared.previous.Previous.TheVariants.{Unset, At}
 use Rattle.dynamics.proofs.Gaps.{zero_nonneg, zero_f64, either, sum_nonneg, sum_keeps}
 use Rattle.dynamics.proofs.Histories.{WipedWords, Kept, forward, newest_grown, time_back, from_wiping, from_start, alike, answers_wiping}
 use Rattle.true_delay.specs.TrueDelay.{machine, output_and_timer, next, advance, state_of, words_of, outputs}
@@ -130,9 +130,9 @@ module _ (b : TrueDelay) (is_f64 : T (fits binary64 b.delay_time)) where
     unfolding output_and_timer state_after passes timer sum at_once
     timed_next started g ok = first (input_of k) b.delay_on_init b.delay_time
     timed_next (wiped j) g ok =
-        tick (input_of k) (input_of j) (at_once b (wiped j)) (delay b) (sum (wiped j)) (timer b (wiped j)) (gap k.time (At j.time)) (g.begun refl) g.running (keeps (wiped j) g ok)
+        tick (input_of k) (input_of j) (at_once b (wiped j)) (delay b) (sum (wiped j)) (timer b (wiped j)) (gap k.time (Some j.time)) (g.begun refl) g.running (keeps (wiped j) g ok)
     timed_next (followed h j) g ok =
-        tick (input_of k) (input_of j) (at_once b (followed h j)) (delay b) (sum (followed h j)) (timer b (followed h j)) (gap k.time (At j.time)) (g.begun refl) g.running (keeps (followed h j) g ok)
+        tick (input_of k) (input_of j) (at_once b (followed h j)) (delay b) (sum (followed h j)) (timer b (followed h j)) (gap k.time (Some j.time)) (g.begun refl) g.running (keeps (followed h j) g ok)
 
     module _ (h : History) (g : Good h) (ok : refused_after k h ≡ 0) where
       timer_next : cond (input_of k) (timer b (followed h k)) 0·0 ≡ timer b (grown wipes h k)
@@ -154,7 +154,7 @@ module _ (b : TrueDelay) (is_f64 : T (fits binary64 b.delay_time)) where
       unfolding advance next state_after
       state_next = rw (held h, timed_next h g ok) (λ i. record {
         timer = timer_next i;
-        previous = sym (newest_grown Unset (λ (j : Tick). At j.time) wipes k h) i;
+        previous = sym (newest_grown None (λ (j : Tick). Some j.time) wipes k h) i;
         input = sym (newest_grown false input_of wipes k h) i;
         held = passes_next i;
       })

@@ -1,5 +1,5 @@
 -- `TrueDelay`: a true input passes when it has lasted for the delay, a false one at once. Definitions only.
-use Rattle.std.specs.Prelude.{ℕ, Bool, true, false, not, ◌&&◌, cond, List, [], ◌∷◌, get_or, Float}
+use Rattle.std.specs.Prelude.{ℕ, ◌≡◌, refl, length, Bool, true, false, not, ◌&&◌, cond, List, [], ◌∷◌, get_or, Float, None, Some}
 use Rattle.std.specs.Float.Ieee.{lt, le}
 use Rattle.std.specs.Float.Ieee.Scale.{finite}
 use Rattle.reals.specs.Words.{0·0, real_of, word_of, flag_of, word_of_flag}
@@ -7,16 +7,12 @@ use Rattle.reals.specs.Arithmetic.{◌⊕◌}
 use Rattle.dynamics.specs.Previous.{previous_of, word_of_previous, gap, is_first}
 use Rattle.dynamics.specs.Leaves.{positive_duration, timed}
 use Rattle.dynamics.specs.Answer.{Outputs, boolean_output}
-use Rattle.dynamics.specs.Machine.{Machine, Reading}
-use Rattle.dynamics.specs.Stepped.{Stepped, stepped_machine, opened_as}
+use Rattle.dynamics.specs.Machine.{Machine}
+use Rattle.dynamics.specs.Stepped.{Stepped, stepped_machine}
 use Rattle.dynamics.specs.declared.call.Inputs.{Inputs}
 use Rattle.dynamics.specs.declared.leaf.Timed.{Timed}
-use Rattle.dynamics.specs.declared.previous.Previous.TheVariants.{Unset, At}
 use Rattle.true_delay.specs.declared.TrueDelay.{TrueDelay}
 use Rattle.true_delay.specs.declared.state.State.{State}
-use Rattle.true_delay.specs.declared.state.Decoded.{Decoded}
-use Rattle.true_delay.specs.declared.state.Decoded.TheVariants.{Refused}
-use Rattle.true_delay.specs.declared.state.Decoded.TheVariants as variant
 
 -- ---- the step
 
@@ -39,7 +35,7 @@ output_and_timer b s time input =
 unfoldable pub next : TrueDelay → State → Float → Bool → State
 next b s time input =
     let o = output_and_timer b s time input in
-    record { timer = o.timer; previous = At time; input = input; held = o.y }
+    record { timer = o.timer; previous = Some time; input = input; held = o.y }
 
 -- a tick's input is its first word
 unfoldable pub advance : TrueDelay → State → Float → Inputs → State
@@ -65,7 +61,7 @@ settings_accepted b = finite b.delay_time
 
 -- all zero
 abbrev pub initial : State
-initial = record { timer = 0·0; previous = Unset; input = false; held = false }
+initial = record { timer = 0·0; previous = None; input = false; held = false }
 
 -- the output of a tick is what it holds
 abbrev pub outputs : State → Outputs
@@ -86,15 +82,11 @@ block b = record {
 abbrev pub machine : TrueDelay → Machine
 machine b = stepped_machine (block b)
 
--- ---- a region taken apart, by the refusal number of the call
+-- a state has as many words
+pub counted : (b : TrueDelay) (s : State) → length ((block b).words_of s) ≡ (block b).size
+unfolding words_of
+counted b s = refl
 
-abbrev pub opened : ℕ → List ℕ → Decoded
-opened n w = opened_as variant.State Refused n (state_of w)
-
--- what each case stands for: its number, and the state or the record of zeros
+-- the record of zeros, for which a refused decode stands
 abbrev pub zeros : State
-zeros = record { timer = 0·0; previous = At 0·0; input = false; held = false }
-
-abbrev pub reads : Decoded → Reading State
-reads (variant.State s) = record { refusal = 0; state = s }
-reads (Refused n) = record { refusal = n; state = zeros }
+zeros = record { timer = 0·0; previous = Some 0·0; input = false; held = false }

@@ -1,19 +1,14 @@
 // The delay's state, and its four words in a region.
-ghost use Rattle.std.specs.Prelude.{◌≡◌};
-ghost use Rattle.dynamics.specs.Region.{stored};
-ghost use Rattle.true_delay.specs.TrueDelay.{state_of, words_of, reads};
-
-use dynamics::{Previous, flag_at, previous_at, real_at, store, word_of_previous};
-use reals::{word_of, word_of_flag};
+use dynamics::Previous;
 
 // Which word is which.
-const TIMER_WORD: usize = 0;
+pub(crate) const TIMER_WORD: usize = 0;
 
-const PREV_T_WORD: usize = 1;
+pub(crate) const PREV_T_WORD: usize = 1;
 
-const PREV_U_WORD: usize = 2;
+pub(crate) const PREV_U_WORD: usize = 2;
 
-const HELD_WORD: usize = 3;
+pub(crate) const HELD_WORD: usize = 3;
 
 // How many words its region has.
 pub const STATE_LEN: usize = 4;
@@ -25,47 +20,4 @@ pub struct State {
     pub previous: Previous,
     pub input: bool,
     pub held: bool,
-}
-
-// A region taken apart: its state, or why it has none.
-#[derive(Clone, Copy)]
-pub enum Decoded {
-    State(State),
-    Refused(u64),
-}
-
-// The refusal number; 0 for a state.
-pub fn number_of(d: Decoded) -> u64
-    ensures { result ≡ (reads d).refusal }
-{
-    match d {
-        Decoded::State(_) => 0,
-        Decoded::Refused(n) => n,
-    }
-}
-
-// What a region's words mean.
-pub(crate) fn state_of(region: &[u64]) -> State
-    ensures { result ≡ state_of region.now }
-{
-    State {
-        timer: real_at(region, TIMER_WORD),
-        previous: previous_at(region, PREV_T_WORD),
-        input: flag_at(region, PREV_U_WORD),
-        held: flag_at(region, HELD_WORD),
-    }
-}
-
-// Stores a state in a region of its length.
-pub(crate) fn write(region: &mut [u64], s: State)
-    ensures { region.new ≡ stored region.old (words_of s) }
-{
-    let previous = s.previous;
-    let words = [
-        word_of(s.timer),
-        word_of_previous(previous),
-        word_of_flag(s.input),
-        word_of_flag(s.held),
-    ];
-    store(region, &words);
 }

@@ -4,7 +4,7 @@ ghost use Rattle.true_delay.specs.TrueDelay.{waits, output_and_timer, advance};
 
 use crate::TrueDelay;
 use crate::state::State;
-use dynamics::{Inputs, Previous, Timed, is_first_tick, positive_duration, tick_dt};
+use dynamics::{Inputs, Timed, is_first_tick, positive_duration, tick_dt};
 use reals::flag_of;
 
 // Whether a true input on the first tick has to wait.
@@ -25,8 +25,7 @@ fn output_and_timer(settings: TrueDelay, s: State, time: f64, input: bool) -> Ti
         };
     }
     let delay = positive_duration(settings.delay_time);
-    let previous = s.previous;
-    if is_first_tick(previous) {
+    if is_first_tick(s.previous) {
         if first_waits(settings, delay) {
             return Timed {
                 y: false,
@@ -50,7 +49,7 @@ fn output_and_timer(settings: TrueDelay, s: State, time: f64, input: bool) -> Ti
             timer: 0.0,
         };
     }
-    let timer = s.timer + tick_dt(time, previous);
+    let timer = s.timer + tick_dt(time, s.previous);
     Timed {
         y: timer >= delay,
         timer,
@@ -58,14 +57,14 @@ fn output_and_timer(settings: TrueDelay, s: State, time: f64, input: bool) -> Ti
 }
 
 // The state after this tick; it holds the output.
-pub(crate) fn step(settings: TrueDelay, s: State, time: f64, inputs: Inputs) -> State
+pub(crate) fn advance(settings: TrueDelay, s: State, time: f64, inputs: Inputs) -> State
     ensures { result ≡ advance settings s time inputs }
 {
     let input = flag_of(inputs.first);
     let timed = output_and_timer(settings, s, time, input);
     State {
         timer: timed.timer,
-        previous: Previous::At(time),
+        previous: Some(time),
         input,
         held: timed.y,
     }

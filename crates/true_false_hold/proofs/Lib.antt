@@ -1,4 +1,3 @@
 -- Laws of the hold both ways.
 pub mod Cases
 pub mod Decoding
-pub mod OneResult

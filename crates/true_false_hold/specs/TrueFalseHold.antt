@@ -1,12 +1,11 @@
 -- `TrueFalseHold`: each value of the output lasts for a least time. Definitions only.
-use Rattle.std.specs.Prelude.{Bool, ◌&&◌, cond, Float}
+use Rattle.std.specs.Prelude.{Bool, ◌&&◌, cond, Float, Some}
 use Rattle.std.specs.Float.Ieee.Scale.{finite}
 use Rattle.reals.specs.Words.{flag_of}
 use Rattle.dynamics.specs.Leaves.{positive_duration}
 use Rattle.dynamics.specs.Machine.{Machine}
 use Rattle.dynamics.specs.Stepped.{Stepped, stepped_machine}
 use Rattle.dynamics.specs.declared.call.Inputs.{Inputs}
-use Rattle.dynamics.specs.declared.previous.Previous.TheVariants.{At}
 use Rattle.hold.specs.Hold.{output_and_timer, hold_of}
 use Rattle.hold.specs.declared.State.{State}
 use Rattle.true_false_hold.specs.declared.TrueFalseHold.{TrueFalseHold}
@@ -21,7 +20,7 @@ required b held = cond held (positive_duration b.true_hold_duration) (positive_d
 unfoldable pub next : TrueFalseHold → State → Float → Bool → State
 next b s time input =
     let o = output_and_timer (required b s.held) s time input in
-    record { held = o.y; timer = o.timer; previous = At time }
+    record { held = o.y; timer = o.timer; previous = Some time }
 
 -- a tick's input is its first word
 unfoldable pub advance : TrueFalseHold → State → Float → Inputs → State

@@ -3,7 +3,7 @@ ghost use Rattle.std.specs.Prelude.{◌≡◌};
 ghost use Rattle.true_false_hold.specs.TrueFalseHold.{required, advance};
 
 use crate::TrueFalseHold;
-use dynamics::{Inputs, Previous, positive_duration};
+use dynamics::{Inputs, positive_duration};
 use hold::{State, output_and_timer};
 use reals::flag_of;
 
@@ -18,7 +18,7 @@ fn required_time(settings: TrueFalseHold, held: bool) -> f64
 }
 
 // The state after this tick.
-pub(crate) fn step(settings: TrueFalseHold, s: State, time: f64, inputs: Inputs) -> State
+pub(crate) fn advance(settings: TrueFalseHold, s: State, time: f64, inputs: Inputs) -> State
     ensures { result ≡ advance settings s time inputs }
 {
     let least = required_time(settings, s.held);
@@ -26,6 +26,6 @@ pub(crate) fn step(settings: TrueFalseHold, s: State, time: f64, inputs: Inputs)
     State {
         held: timed.y,
         timer: timed.timer,
-        previous: Previous::At(time),
+        previous: Some(time),
     }
 }

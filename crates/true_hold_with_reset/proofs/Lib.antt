@@ -4,4 +4,3 @@ pub mod Decoding
 pub mod Durations
 pub mod Wiping
 pub mod TwoRegions
-pub mod OneResult

@@ -1,4 +1,5 @@
 -- Demand 3 for `TrueHoldWithReset`: its steps keep its account. Assumes nothing.
+use Rattle.std.specs.Prelude.{None, Some}
 use mathlib.Core.Path.{◌≡◌, refl, sym, ap}
 use mathlib.Core.Bool.{Bool, true, false, ◌&&◌, ◌||◌, cond}
 use mathlib.Core.List.{List}
@@ -13,7 +14,6 @@ use Rattle.dynamics.specs.Machine.{Tick}
 use Rattle.dynamics.specs.Stepped.{stepped_machine}
 use Rattle.dynamics.specs.History.{History, started, wiped, followed, previous_in, refused_after, grown, RetoldFromWiping, AlikeFromWiping, AnswersWiping, RetoldFromStart}
 use Rattle.dynamics.specs.declared.leaf.Timed.{Timed}
-use Rattle.dynamics.specs.declared.previous.Previous.TheVariants.{Unset, At}
 use Rattle.dynamics.proofs.Gaps.{zero_nonneg, zero_f64, either, sum_nonneg}
 use Rattle.dynamics.proofs.Histories.{WipedWords, Kept, newest_grown, time_back, grown_sound, from_wiping, from_start, alike, answers_wiping}
 use Rattle.hold.specs.Hold.{state_of, words_of, outputs}
@@ -124,7 +124,7 @@ module _ (b : TrueHoldWithReset) where
     state_next = rw (held h) (λ i. record {
       held = (timed_next i).y;
       timer = (timed_next i).timer;
-      previous = sym (newest_grown Unset (λ (j : Tick). At j.time) wipes k h) i;
+      previous = sym (newest_grown None (λ (j : Tick). Some j.time) wipes k h) i;
     })
 
   -- a wiping tick leaves the state of the history that is this tick alone

@@ -1,5 +1,5 @@
 -- `TrueHoldWithReset`: a true output lasts for a least time; clear ends it. Definitions only.
-use Rattle.std.specs.Prelude.{Bool, true, false, ◌&&◌, ◌||◌, cond, Float}
+use Rattle.std.specs.Prelude.{Bool, true, false, ◌&&◌, ◌||◌, cond, Float, Some}
 use Rattle.std.specs.Float.Ieee.{lt}
 use Rattle.std.specs.Float.Ieee.Scale.{finite}
 use Rattle.reals.specs.Words.{0·0, flag_of}
@@ -9,7 +9,6 @@ use Rattle.dynamics.specs.Machine.{Machine}
 use Rattle.dynamics.specs.Stepped.{Stepped, stepped_machine}
 use Rattle.dynamics.specs.declared.call.Inputs.{Inputs}
 use Rattle.dynamics.specs.declared.leaf.Timed.{Timed}
-use Rattle.dynamics.specs.declared.previous.Previous.TheVariants.{At}
 use Rattle.hold.specs.Hold.{lasted, hold_of}
 use Rattle.hold.specs.declared.State.{State}
 use Rattle.true_hold_with_reset.specs.declared.TrueHoldWithReset.{TrueHoldWithReset}
@@ -36,7 +35,7 @@ output_and_timer b s time input clear =
 unfoldable pub next : TrueHoldWithReset → State → Float → Bool → Bool → State
 next b s time input clear =
     let o = output_and_timer b s time input clear in
-    record { held = o.y; timer = o.timer; previous = At time }
+    record { held = o.y; timer = o.timer; previous = Some time }
 
 -- a tick's two inputs are its first words
 unfoldable pub advance : TrueHoldWithReset → State → Float → Inputs → State

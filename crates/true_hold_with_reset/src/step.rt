@@ -3,7 +3,7 @@ ghost use Rattle.std.specs.Prelude.{◌≡◌};
 ghost use Rattle.true_hold_with_reset.specs.TrueHoldWithReset.{run_time, holds, output_and_timer, advance};
 
 use crate::TrueHoldWithReset;
-use dynamics::{Inputs, Previous, Timed, is_first_tick, positive_duration, tick_dt};
+use dynamics::{Inputs, Timed, is_first_tick, positive_duration, tick_dt};
 use hold::State;
 use reals::flag_of;
 
@@ -12,8 +12,7 @@ fn run_time(s: State, time: f64) -> f64
     ensures { result ≡ run_time s time }
 {
     if s.held {
-        let previous = s.previous;
-        return s.timer + tick_dt(time, previous);
+        return s.timer + tick_dt(time, s.previous);
     }
     0.0
 }
@@ -35,8 +34,7 @@ fn output_and_timer(
 ) -> Timed
     ensures { result ≡ output_and_timer settings s time input clear }
 {
-    let previous = s.previous;
-    let first = is_first_tick(previous);
+    let first = is_first_tick(s.previous);
     if clear {
         return Timed {
             y: false,
@@ -60,7 +58,7 @@ fn output_and_timer(
 }
 
 // The state after this tick.
-pub(crate) fn step(settings: TrueHoldWithReset, s: State, time: f64, inputs: Inputs) -> State
+pub(crate) fn advance(settings: TrueHoldWithReset, s: State, time: f64, inputs: Inputs) -> State
     ensures { result ≡ advance settings s time inputs }
 {
     let input = flag_of(inputs.first);
@@ -69,6 +67,6 @@ pub(crate) fn step(settings: TrueHoldWithReset, s: State, time: f64, inputs: Inp
     State {
         held: timed.y,
         timer: timed.timer,
-        previous: Previous::At(time),
+        previous: Some(time),
     }
 }

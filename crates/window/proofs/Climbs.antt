@@ -1,4 +1,6 @@
 -- Times are in order up to a previous time exactly if the first is finite and a walk along them climbs to that time; a walk goes in stretches. Assumes nothing.
+use Rattle.dynamics.specs.Previous.{Previous}
+use Rattle.std.specs.Prelude.{None, Some}
 use Rattle.std.proofs.Common.{◌≡◌, ℕ, zero, suc, ◌+◌, ◌-◌, ◌<◌, ◌≤◌, Bool, true, false, cond, ◌&&◌, T, eqb, sym, refl, ap, ◌∙◌, subst, ⊎_elim, add-zero, eq-or-lt_of_le, zero-add, add-one, arith, eq-eqb, eqb-true}
 use lib.Ieee.{Float, nan, inf, fin, le}
 use lib.Ieee.Scale.{finite}
@@ -7,8 +9,6 @@ use lib.Ieee.Bits.{is_true}
 use lib.Ieee.Fits.{and_i, and_l, and_r}
 use Rattle.reals.proofs.Values.{agree}
 use Rattle.reals.proofs.Order.{number, le_right, le_reflexive, le_transitive, le_of_not_lt, le_not_lt, finite_number, over_all}
-use Rattle.dynamics.specs.declared.previous.Previous.{Previous}
-use Rattle.dynamics.specs.declared.previous.Previous.TheVariants.{Unset, At}
 use Rattle.window.specs.Order.{Ordered, is_ordered}
 use Rattle.window.specs.Walk.{climbed}
 use Rattle.window.proofs.Orders.{is_number, ordered_means, means_ordered, none_ordered}
@@ -143,7 +143,7 @@ module _ (time : ℕ → Float) (count : ℕ) (p : Float) (fp : finite p ≡ tru
   abbrev Walked : Type 0
   Walked = Climbs time 0 count (time 0) p
 
-  climbs_ordered : T (finite (time 0)) → Walked → Ordered time count (At p)
+  climbs_ordered : T (finite (time 0)) → Walked → Ordered time count (Some p)
   climbs_ordered f c =
       record {
         finites = λ n h. is_true _ (between (time 0) (time n) p f (passes _ fp) (above n h) (below n h));
@@ -159,7 +159,7 @@ module _ (time : ℕ → Float) (count : ℕ) (p : Float) (fp : finite p ≡ tru
       above zero h = le_reflexive (time 0) (finite_number (time 0) f)
       above (suc n) h = rw (← add-one n) (le_transitive (time 0) (time n) (time (n + 1)) (above n (omega arith)) (c.up n (omega arith) (omega arith)))
 
-  module _ (o : Ordered time count (At p)) where
+  module _ (o : Ordered time count (Some p)) where
     a_number : (n : ℕ) → n < count → T (number (time n))
     a_number n h = is_number (time n) (o.finites n h)
 
@@ -175,26 +175,26 @@ module _ (time : ℕ → Float) (count : ℕ) (p : Float) (fp : finite p ≡ tru
           under = λ n a b. below_p n (omega arith);
         }
 
-  walk_ordered : finite (time 0) && le (climbed time 0 count (time 0)) p ≡ is_ordered time count (At p)
+  walk_ordered : finite (time 0) && le (climbed time 0 count (time 0)) p ≡ is_ordered time count (Some p)
   walk_ordered =
       let f = finite (time 0) in
       let l = le (climbed time 0 count (time 0)) p in
-      agree (f && l) (is_ordered time count (At p))
-      (λ h. passes _ (means_ordered time count (At p) (climbs_ordered (and_l f l h) (climbed_climbs time p count 0 (time 0) (and_r f l h)))))
-      (λ h. let o = ordered_means time count (At p) (is_true _ h) in
+      agree (f && l) (is_ordered time count (Some p))
+      (λ h. passes _ (means_ordered time count (Some p) (climbs_ordered (and_l f l h) (climbed_climbs time p count 0 (time 0) (and_r f l h)))))
+      (λ h. let o = ordered_means time count (Some p) (is_true _ h) in
       and_i f l (passes _ (o.finites 0 some)) (climbs_climbed time p count 0 (time 0) (ordered_climbs o)))
 
   -- the first time is looked at, then the walk goes from it
   module _ {first : Float} (is : first ≡ time 0) {f : Bool} (tested : f ≡ finite first) where
-    pub walk_else : f ≡ false → false ≡ is_ordered time count (At p)
+    pub walk_else : f ≡ false → false ≡ is_ordered time count (Some p)
     walk_else e = rw (← is, ← tested, e) at walk_ordered
 
-    pub walk_then : f ≡ true → {top : Float} → top ≡ climbed time 0 count first → le top p ≡ is_ordered time count (At p)
+    pub walk_then : f ≡ true → {top : Float} → top ≡ climbed time 0 count first → le top p ≡ is_ordered time count (Some p)
     walk_then e t = rw t (rw (← is, ← tested, e) at walk_ordered)
 
 -- ---- before the first tick there are none
-pub unset_ordered : (time : ℕ → Float) (count : ℕ) → eqb count 0 ≡ is_ordered time count Unset
+pub unset_ordered : (time : ℕ → Float) (count : ℕ) → eqb count 0 ≡ is_ordered time count None
 unset_ordered time count =
-    agree (eqb count 0) (is_ordered time count Unset)
-    (λ h. passes _ (none_walked time count Unset (eqb-true _ _ (is_true _ h))))
-    (λ h. passes _ (eq-eqb _ _ ((ordered_means time count Unset (is_true _ h)).begun refl)))
+    agree (eqb count 0) (is_ordered time count None)
+    (λ h. passes _ (none_walked time count None (eqb-true _ _ (is_true _ h))))
+    (λ h. passes _ (eq-eqb _ _ ((ordered_means time count None (is_true _ h)).begun refl)))

@@ -1,4 +1,5 @@
 -- Times in order, by position: what the yes or no says, and what keeps the order: fewer of them, and a time after the last one or in its place, -0.0 after 0.0 too. Assumes nothing.
+use Rattle.std.specs.Prelude.{None, Some}
 use Rattle.std.proofs.Common.{◌≡◌, ℕ, zero, suc, ◌+◌, ◌-◌, ◌<◌, ◌≤◌, Bool, true, false, not, ◌||◌, T, eqb, sym, refl, ap, ◌∙◌, subst, ⊎_elim, add_assoc, eq-or-lt_of_le, arith, eq-eqb, eqb-true}
 use borrow.Author.Tests.{not-true}
 use denote.Floats.{passes}
@@ -6,9 +7,7 @@ use lib.Ieee.{Float, lt}
 use lib.Ieee.Scale.{finite}
 use Rattle.reals.proofs.Values.{both, both_pass}
 use Rattle.reals.proofs.Order.{number, le_transitive, le_of_not_lt, le_not_lt, le_reflexive, finite_number}
-use Rattle.dynamics.specs.Previous.{sound_previous, runs_back, is_first}
-use Rattle.dynamics.specs.declared.previous.Previous.{Previous}
-use Rattle.dynamics.specs.declared.previous.Previous.TheVariants.{Unset, At}
+use Rattle.dynamics.specs.Previous.{sound_previous, runs_back, is_first, Previous}
 use Rattle.window.specs.Order.{is_above, Ordered, all, is_ordered}
 
 -- ---- a test that does not pass
@@ -28,13 +27,13 @@ each_all p zero f = refl
 each_all p (suc k) f = both_pass (each_all p k (λ n h. f n (omega arith))) (f k (omega arith))
 
 -- the previous time is set, or the count is 0
-set_or_none : (p : Previous) (count : ℕ) → not (is_first p) || eqb count 0 ≡ true → p ≡ Unset → count ≡ 0
-set_or_none Unset count e u = eqb-true _ _ e
-set_or_none (At p) count e u = let z : ◌≡◌ {A = ℕ} 0 1 = cc in absurd (omega arith)
+set_or_none : (p : Previous) (count : ℕ) → not (is_first p) || eqb count 0 ≡ true → p ≡ None → count ≡ 0
+set_or_none None count e u = eqb-true _ _ e
+set_or_none (Some p) count e u = let z : ◌≡◌ {A = ℕ} 0 1 = cc in absurd (omega arith)
 
-none_or_set : (p : Previous) (count : ℕ) → (p ≡ Unset → count ≡ 0) → not (is_first p) || eqb count 0 ≡ true
-none_or_set Unset count f = eq-eqb _ _ (f refl)
-none_or_set (At p) count f = refl
+none_or_set : (p : Previous) (count : ℕ) → (p ≡ None → count ≡ 0) → not (is_first p) || eqb count 0 ≡ true
+none_or_set None count f = eq-eqb _ _ (f refl)
+none_or_set (Some p) count f = refl
 
 -- ---- `is_ordered` is yes exactly when the times are in order
 module _ (time : ℕ → Float) (count : ℕ) (p : Previous) where
@@ -83,9 +82,9 @@ pub is_number : (x : Float) → finite x ≡ true → T (number x)
 is_number x f = finite_number x (passes _ f)
 
 -- a time that does not run back is not below one that is not above the previous time
-not_before : (t x : Float) (p : Previous) → finite t ≡ true → finite x ≡ true → (p ≡ Unset → ⊥) → sound_previous p ≡ true → runs_back t p ≡ false → is_above x p ≡ false → lt t x ≡ false
-not_before t x Unset ft fx set s a b = absurd (set refl)
-not_before t x (At p) ft fx set s a b =
+not_before : (t x : Float) (p : Previous) → finite t ≡ true → finite x ≡ true → (p ≡ None → ⊥) → sound_previous p ≡ true → runs_back t p ≡ false → is_above x p ≡ false → lt t x ≡ false
+not_before t x None ft fx set s a b = absurd (set refl)
+not_before t x (Some p) ft fx set s a b =
     le_not_lt x t (le_transitive x p t (le_of_not_lt x p (is_number x fx) (is_number p s) b) (le_of_not_lt p t (is_number p s) (is_number t ft) a))
 
 module _ (old new : ℕ → Float) (count position : ℕ) (p : Previous) (t : Float) (near : position ≤ count) (o : Ordered old count p)
@@ -97,7 +96,7 @@ module _ (old new : ℕ → Float) (count position : ℕ) (p : Previous) (t : Fl
   each : (P : Float → Type 0) → ((n : ℕ) → n < count → P (old n)) → P t → (n : ℕ) → n < position + 1 → P (new n)
   each P a b n k = ⊎_elim (λ e. subst P (sym (ap new e ∙ is)) b) (λ i. rw (same n i) (a n (omega arith))) (eq-or-lt_of_le {n = n} {m = position} (omega arith))
 
-  pub stored_ordered : Ordered new (position + 1) (At t)
+  pub stored_ordered : Ordered new (position + 1) (Some t)
   stored_ordered =
       record {
         finites = each (λ x. finite x ≡ true) o.finites ft;
@@ -106,6 +105,6 @@ module _ (old new : ℕ → Float) (count position : ℕ) (p : Previous) (t : Fl
             ⊎_elim (λ e. let last : new (n + 1) ≡ t = ap new e ∙ is in rw (last, same n here) (later n (omega arith)))
             (λ i. rw (same (n + 1) i, same n here) (o.rises n (omega arith)))
             (eq-or-lt_of_le {n = n + 1} {m = position} (omega arith));
-        past = each (λ x. is_above x (At t) ≡ false) later (le_not_lt t t (le_reflexive t (is_number t ft)));
+        past = each (λ x. is_above x (Some t) ≡ false) later (le_not_lt t t (le_reflexive t (is_number t ft)));
         begun = λ e. let z : ◌≡◌ {A = ℕ} 0 1 = cc in absurd (omega arith);
       }

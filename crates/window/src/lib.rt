@@ -5,4 +5,4 @@ pub mod mean;
 pub mod ring;
 
 pub use mean::{Point, denominator, interpolate};
-pub use ring::{RingGeometry, geometry};
+pub use ring::{FRONT_WORDS, RingGeometry, geometry};

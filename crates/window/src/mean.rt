@@ -21,6 +21,9 @@ pub fn interpolate(prev: Point, next: Point, target: f64) -> f64
     }
 }
 
+// What keeps the divisor off 0 on the first tick.
+const OFF_ZERO: f64 = 1e-3;
+
 // What the integral over the window is divided by: delta, and until the window is full the time since the start.
 pub fn denominator(t_start: f64, delta: f64, t: f64) -> f64
     ensures { result ≡ divisor t_start delta t }
@@ -28,6 +31,6 @@ pub fn denominator(t_start: f64, delta: f64, t: f64) -> f64
     if t >= t_start + delta {
         delta
     } else {
-        t - t_start + 1e-3
+        t - t_start + OFF_ZERO
     }
 }

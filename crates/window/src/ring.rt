@@ -8,6 +8,16 @@ use reals::ceil;
 // Upstream `delta(min=1E-5)`.
 const MIN_DELTA: f64 = 1e-5;
 
+// How many slots a window has at the least and at the most, and how many a ring has beyond them.
+const LEAST_SLOTS: usize = 2048;
+
+const MOST_SLOTS: usize = 131072;
+
+const SPARE_SLOTS: usize = 4;
+
+// How many words lie ahead of a ring in its region.
+pub const FRONT_WORDS: usize = 6;
+
 // A ring resolved from delta: the window, how many points fit, how many words the region has, and how far apart ticks
 // are that are all kept.
 #[derive(Clone, Copy)]
@@ -25,29 +35,31 @@ fn delta_eff(delta: f64) -> f64
     raised_to(MIN_DELTA, delta)
 }
 
-// Two slots a second, 2048 at least and 131072 at most.
+// Two slots a second, within the least and the most. A NaN gives the most.
 fn slots(whole: f64) -> usize
     ensures { result ≡ slots_of whole }
 {
-    if whole < 131072.0 {
-        if 2048.0 < whole {
+    if whole < MOST_SLOTS as f64 {
+        if (LEAST_SLOTS as f64) < whole {
             return std::num::truncating_f64_to_u64(whole) as usize;
         }
-        return 2048;
+        return LEAST_SLOTS;
     }
-    131072
+    MOST_SLOTS
 }
 
 // The ring for a window of delta seconds.
+#[tactic(auto, using(crate::proofs::Sizes::slots_within))]
 pub fn geometry(delta: f64) -> RingGeometry
     ensures { result ≡ geometry_of delta }
 {
     let window = delta_eff(delta);
     let n = slots(2.0 * ceil(window));
+    let capacity = n + SPARE_SLOTS;
     RingGeometry {
         delta: window,
-        capacity: n + 4,
-        length: 6 + 2 * (n + 4),
+        capacity,
+        length: FRONT_WORDS + 2 * capacity,
         resolution: window / (n as f64),
     }
 }

@@ -1,45 +1,71 @@
 -- `decode` is the chosen block's. Assumes nothing.
-use mathlib.Core.Path.{refl, ap, ◌∙◌}
-use Rattle.pid.proofs.Decoding as controllers
-use Rattle.moving_average.proofs.Decoding as average
-use Rattle.timer_accumulating.proofs.Decoding as accumulating
-use Rattle.true_delay.proofs.Decoding as delay
-use Rattle.hold.proofs.Decoding as holds
-use Rattle.logical_variable_pulse.proofs.Decoding as pulse
+use mathlib.Core.Path.{refl}
 use Rattle.blocks.specs.Block.{machine_of}
-use Rattle.blocks.specs.Decoded.{state_of, of_controller, of_average, of_accumulating, of_delay, of_hold, of_pulse}
-use Rattle.blocks.specs.declared.decoded.State.TheVariants as state
-use Rattle.blocks.proofs.Decoding.{carried, says}
+use Rattle.blocks.specs.Decoded.{state_of}
+use Rattle.blocks.specs.declared.decoded.State.TheVariants as variant
+use Rattle.blocks.proofs.Decoding.{refused, taken}
 use Rattle.blocks.proofs.decode.Goals as goal
 
-pub returns-in-Pid : goal.returns-in-Pid
-unfolding machine_of state_of
-returns-in-Pid c = says c.in-Pid.is _ (c.controller_decoded.ensures ∙ ap of_controller c.decode.ensures.value ∙ carried controllers.decoded of_controller state.Controller (λ s. refl) (λ n. refl) _ _)
+pub returns-in_err-decode-in-Pid : goal.returns-in_err-decode-in-Pid
+unfolding machine_of
+returns-in_err-decode-in-Pid c = refused c.in-Pid.is c.args.region.now c.in_err-decode-in-Pid.ensures.value c.from_residual.ensures.1
 
-pub returns-in-PidWithReset : goal.returns-in-PidWithReset
+pub returns-in_ok-decode-in-Pid : goal.returns-in_ok-decode-in-Pid
 unfolding machine_of state_of
-returns-in-PidWithReset c = says c.in-PidWithReset.is _ (c.controller_decoded-in-PidWithReset.ensures ∙ ap of_controller c.decode-in-PidWithReset.ensures.value ∙ carried controllers.decoded of_controller state.Controller (λ s. refl) (λ n. refl) _ _)
+returns-in_ok-decode-in-Pid c = taken c.in-Pid.is c.args.region.now variant.Controller refl c.in_ok-decode-in-Pid.ensures.value c.into.ensures
 
-pub returns-in-MovingAverage : goal.returns-in-MovingAverage
-unfolding machine_of state_of
-returns-in-MovingAverage c = says c.in-MovingAverage.is _ (c.average_decoded.ensures ∙ ap of_average c.decode-in-MovingAverage.ensures.value ∙ carried average.decoded of_average state.MovingAverage (λ s. refl) (λ n. refl) _ _)
+pub returns-in_err-decode-in-PidWithReset : goal.returns-in_err-decode-in-PidWithReset
+unfolding machine_of
+returns-in_err-decode-in-PidWithReset c = refused c.in-PidWithReset.is c.args.region.now c.in_err-decode-in-PidWithReset.ensures.value c.from_residual-in_err-decode-in-PidWithReset.ensures.1
 
-pub returns-in-TimerAccumulating : goal.returns-in-TimerAccumulating
+pub returns-in_ok-decode-in-PidWithReset : goal.returns-in_ok-decode-in-PidWithReset
 unfolding machine_of state_of
-returns-in-TimerAccumulating c = says c.in-TimerAccumulating.is _ (c.accumulating_decoded.ensures ∙ ap of_accumulating c.decode-in-TimerAccumulating.ensures.value ∙ carried accumulating.decoded of_accumulating state.TimerAccumulating (λ s. refl) (λ n. refl) _ _)
+returns-in_ok-decode-in-PidWithReset c = taken c.in-PidWithReset.is c.args.region.now variant.Controller refl c.in_ok-decode-in-PidWithReset.ensures.value c.into-in-PidWithReset.ensures
 
-pub returns-in-TrueDelay : goal.returns-in-TrueDelay
-unfolding machine_of state_of
-returns-in-TrueDelay c = says c.in-TrueDelay.is _ (c.delay_decoded.ensures ∙ ap of_delay c.decode-in-TrueDelay.ensures.value ∙ carried delay.decoded of_delay state.TrueDelay (λ s. refl) (λ n. refl) _ _)
+pub returns-in_err-decode-in-MovingAverage : goal.returns-in_err-decode-in-MovingAverage
+unfolding machine_of
+returns-in_err-decode-in-MovingAverage c = let v = c.in_err-decode-in-MovingAverage.ensures.value in refused c.in-MovingAverage.is c.args.region.now (rw c.windowed-own.ensures at v) c.from_residual-in_err-decode-in-MovingAverage.ensures.1
 
-pub returns-in-TrueFalseHold : goal.returns-in-TrueFalseHold
+pub returns-in_ok-decode-in-MovingAverage : goal.returns-in_ok-decode-in-MovingAverage
 unfolding machine_of state_of
-returns-in-TrueFalseHold c = says c.in-TrueFalseHold.is _ (c.hold_decoded.ensures ∙ ap of_hold c.decode-in-TrueFalseHold.ensures.value ∙ carried holds.decoded of_hold state.Hold (λ s. refl) (λ n. refl) _ _)
+returns-in_ok-decode-in-MovingAverage c = let v = c.in_ok-decode-in-MovingAverage.ensures.value in taken c.in-MovingAverage.is c.args.region.now variant.MovingAverage refl (rw c.windowed-own.ensures at v) c.into-in-MovingAverage.ensures
 
-pub returns-in-TrueHoldWithReset : goal.returns-in-TrueHoldWithReset
-unfolding machine_of state_of
-returns-in-TrueHoldWithReset c = says c.in-TrueHoldWithReset.is _ (c.hold_decoded-in-TrueHoldWithReset.ensures ∙ ap of_hold c.decode-in-TrueHoldWithReset.ensures.value ∙ carried holds.decoded of_hold state.Hold (λ s. refl) (λ n. refl) _ _)
+pub returns-in_err-decode-in-TimerAccumulating : goal.returns-in_err-decode-in-TimerAccumulating
+unfolding machine_of
+returns-in_err-decode-in-TimerAccumulating c = refused c.in-TimerAccumulating.is c.args.region.now c.in_err-decode-in-TimerAccumulating.ensures.value c.from_residual-in_err-decode-in-TimerAccumulating.ensures.1
 
-pub returns-in-LogicalVariablePulse : goal.returns-in-LogicalVariablePulse
+pub returns-in_ok-decode-in-TimerAccumulating : goal.returns-in_ok-decode-in-TimerAccumulating
 unfolding machine_of state_of
-returns-in-LogicalVariablePulse c = says c.in-LogicalVariablePulse.is _ (c.pulse_decoded.ensures ∙ ap of_pulse c.decode-in-LogicalVariablePulse.ensures.value ∙ carried pulse.decoded of_pulse state.LogicalVariablePulse (λ s. refl) (λ n. refl) _ _)
+returns-in_ok-decode-in-TimerAccumulating c = taken c.in-TimerAccumulating.is c.args.region.now variant.TimerAccumulating refl c.in_ok-decode-in-TimerAccumulating.ensures.value c.into-in-TimerAccumulating.ensures
+
+pub returns-in_err-decode-in-TrueDelay : goal.returns-in_err-decode-in-TrueDelay
+unfolding machine_of
+returns-in_err-decode-in-TrueDelay c = refused c.in-TrueDelay.is c.args.region.now c.in_err-decode-in-TrueDelay.ensures.value c.from_residual-in_err-decode-in-TrueDelay.ensures.1
+
+pub returns-in_ok-decode-in-TrueDelay : goal.returns-in_ok-decode-in-TrueDelay
+unfolding machine_of state_of
+returns-in_ok-decode-in-TrueDelay c = taken c.in-TrueDelay.is c.args.region.now variant.TrueDelay refl c.in_ok-decode-in-TrueDelay.ensures.value c.into-in-TrueDelay.ensures
+
+pub returns-in_err-decode-in-TrueFalseHold : goal.returns-in_err-decode-in-TrueFalseHold
+unfolding machine_of
+returns-in_err-decode-in-TrueFalseHold c = refused c.in-TrueFalseHold.is c.args.region.now c.in_err-decode-in-TrueFalseHold.ensures.value c.from_residual-in_err-decode-in-TrueFalseHold.ensures.1
+
+pub returns-in_ok-decode-in-TrueFalseHold : goal.returns-in_ok-decode-in-TrueFalseHold
+unfolding machine_of state_of
+returns-in_ok-decode-in-TrueFalseHold c = taken c.in-TrueFalseHold.is c.args.region.now variant.Hold refl c.in_ok-decode-in-TrueFalseHold.ensures.value c.into-in-TrueFalseHold.ensures
+
+pub returns-in_err-decode-in-TrueHoldWithReset : goal.returns-in_err-decode-in-TrueHoldWithReset
+unfolding machine_of
+returns-in_err-decode-in-TrueHoldWithReset c = refused c.in-TrueHoldWithReset.is c.args.region.now c.in_err-decode-in-TrueHoldWithReset.ensures.value c.from_residual-in_err-decode-in-TrueHoldWithReset.ensures.1
+
+pub returns-in_ok-decode-in-TrueHoldWithReset : goal.returns-in_ok-decode-in-TrueHoldWithReset
+unfolding machine_of state_of
+returns-in_ok-decode-in-TrueHoldWithReset c = taken c.in-TrueHoldWithReset.is c.args.region.now variant.Hold refl c.in_ok-decode-in-TrueHoldWithReset.ensures.value c.into-in-TrueHoldWithReset.ensures
+
+pub returns-in_err-decode-in-LogicalVariablePulse : goal.returns-in_err-decode-in-LogicalVariablePulse
+unfolding machine_of
+returns-in_err-decode-in-LogicalVariablePulse c = refused c.in-LogicalVariablePulse.is c.args.region.now c.in_err-decode-in-LogicalVariablePulse.ensures.value c.from_residual-in_err-decode-in-LogicalVariablePulse.ensures.1
+
+pub returns-in_ok-decode-in-LogicalVariablePulse : goal.returns-in_ok-decode-in-LogicalVariablePulse
+unfolding machine_of state_of
+returns-in_ok-decode-in-LogicalVariablePulse c = taken c.in-LogicalVariablePulse.is c.args.region.now variant.LogicalVariablePulse refl c.in_ok-decode-in-LogicalVariablePulse.ensures.value c.into-in-LogicalVariablePulse.ensures

@@ -4,4 +4,4 @@ use Rattle.exports.specs.Boundary.{answer_crossed}
 use Rattle.exports.proofs.boundary.no_answer.Goals as goal
 
 pub returns : goal.returns
-returns c = c.answer_words.ensures ∙ ap answer_crossed c.silent.ensures
+returns c = c.into.ensures ∙ ap answer_crossed c.silent.ensures

@@ -1,13 +1,9 @@
--- `oven_decode` is the block's. Assumes nothing.
-use mathlib.Core.Path.{ap, ◌∙◌}
+-- `oven_decode` has the state, or the refusal with zeros. Assumes nothing.
+use mathlib.Core.Path.{◌∙◌}
 use Rattle.exports.specs.Calls.{by_name}
-use Rattle.exports.specs.Boundary.{decoded_words}
+use Rattle.exports.proofs.Answers.{state_in_words}
 use Rattle.exports.proofs.calls.oven_decode.Goals as goal
-
-pub returns-in_default : goal.returns-in_default
-unfolding by_name
-returns-in_default c = rw (← c.block_of-named.ensures, c.in_default.is) c.no_state.ensures
 
 pub returns : goal.returns
 unfolding by_name
-returns c = rw (← c.block_of-named.ensures, c.in-Block.is) (c.decoded_words.ensures ∙ ap decoded_words c.decode.ensures.value)
+returns c = rw (← c.in-Some.ensures) (c.decoded_words.ensures ∙ state_in_words _ c.decode.ensures.value)

@@ -13,17 +13,18 @@ loop-row-init c = rw c.into_iter-row-iterator.ensures.into_iter_gives (record {
   size = c.chunks_exact-row-items.ensures.size;
 })
 
-pub returns-in_default : goal.returns-in_default
-returns-in_default c =
+pub returns-in_err-block : goal.returns-in_err-block
+returns-in_err-block c =
     let (next, whole) = c.in-Some.ensures.steps.1 in
-    let nothing = row_nothing _ _ c.settings_read-stop.ensures c.block_of-named.ensures c.in_default.is in
-    tabled_nothing _ c.if-words-ne0.false (tabling_nothing _ _ _ c.loop-row.invariant.tabling next (whole ∙ c.loop-row.invariant.size) nothing)
+    let nothing = row_nothing _ _ c.settings_read-stop.ensures c.block_of.ensures c.in_err-block.was in
+    rw c.from_residual.ensures
+    (tabled_nothing _ c.if-words-ne0.false (tabling_nothing _ _ _ c.loop-row.invariant.tabling next (whole ∙ c.loop-row.invariant.size) nothing))
 
 pub loop-row-preserved : goal.loop-row-preserved
 loop-row-preserved c =
     let (next, whole) = c.in-Some.ensures.steps.1 in
     let on = c.loop-row.invariant in
-    let named = row_named _ _ c.settings_read-stop.ensures c.block_of-named.ensures c.in-Block.is refl in
+    let named = row_named _ _ c.settings_read-stop.ensures c.block_of.ensures c.in_ok-block.was refl in
     record {
       tabling = elim c.if-table-lt-TABLE_ROWS.branch [
         | then-table-lt-TABLE_ROWS w ↦ rw (w.table-is, w.row_with.ensures) (tabling_more _ _ _ on.tabling next (whole ∙ on.size) named)

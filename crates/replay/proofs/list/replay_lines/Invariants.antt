@@ -7,9 +7,12 @@ use Rattle.replay.specs.List.{AllHold}
 use Rattle.replay.proofs.list.replay_lines.Given as goal
 
 abbrev pub invariant-loop-at : goal.invariant-loop-at
-invariant-loop-at g l =
-    (l.at ≤ length l.lines) × (l.calls ≤ l.at) × (l.differ ≤ l.calls) × (length l.region ≡ length l.initial.region) × (length l.expected ≡ length l.initial.expected)
-    × (l.differ ≡ 0 → AllHold l.form l.lines l.at → AllHold l.form l.lines 0)
+invariant-loop-at g l = record {
+  within : l.at ≤ length l.lines;
+  few : l.calls ≤ l.at;
+  differing : l.differ ≤ l.calls;
+  holds : l.differ ≡ 0 → AllHold l.form l.lines l.at → AllHold l.form l.lines 0;
+}
 
 abbrev pub decreases-loop-at : goal.decreases-loop-at
 decreases-loop-at g l = length l.lines - l.at

@@ -1,25 +1,43 @@
--- `chunk::feed` meets its contract: it takes the part that there is room for. Assumes nothing.
-use mathlib.Core.Path.{◌≡◌, sym, ◌∙◌}
+-- `chunk::feed` meets its contract: what is left of the chunk leads from the run at hand to where all of it leads. Assumes nothing.
+use Prim.Native.Nat.{min}
+use mathlib.Core.Path.{sym, ap, ◌∙◌}
 use borrow.Author.Rules.{rules}
 use native.Mathlib.Omega.{arith}
-use lib.Seq.{length-take-le}
-use Rattle.session.specs.Stream.{at_hand}
-use Rattle.session.proofs.Feeding.{fed_part}
+use lib.ListN.{length, take}
+use Rattle.session.proofs.Short.{line_short}
+use Rattle.session.proofs.Feeding.{part_fits, held_length, running_line, running_byte, running_end, feeds_left}
 use Rattle.session.proofs.chunk.feed.Goals as goal
+use Rattle.session.proofs.chunk.feed.Goals.{then-b-eq10, else-b-eq10}
 
-pub slice_bounds-feed_all-end-2 : goal.slice_bounds-feed_all-end-2
-slice_bounds-feed_all-end-2 c = sym (length-take-le c.least-n.result c.args.chunk.now c.least-n.ensures.at_most_a)
+pub line_in-session-requires : goal.line_in-session-requires
+line_in-session-requires c = omega (arith, part_fits c.args.chunk.now c.args.out.now c.min-used.ensures)
 
-pub feed_all-requires : goal.feed_all-requires
-feed_all-requires c =
-    let a = c.args in
-    let n = c.least-n in
-    (search rules, omega (arith, length-take-le n.result a.chunk.now n.ensures.at_most_a, n.ensures.at_most_b))
+pub loop-b-preserved : goal.loop-b-preserved
+loop-b-preserved c =
+    let l = c.loop-b in
+    elim c.if-b-eq10.branch [
+      | then-b-eq10 w ↦
+          let n = w.min-n in
+          let g = w.line_in-session.ensures in
+          rw (w.out-is, w.held-is, w.session-is, w.region-is, w.carry-is) (record {
+            room = omega (arith, g.put.put.moved, line_short l.region l.session (take n.result l.carry));
+            carry = l.invariant.carry;
+            size = g.put.size ∙ l.invariant.size;
+            same_reference = g.put.same_reference ∙ l.invariant.same_reference;
+            runs = running_line l.invariant.runs c.loop-b-test.true w.if-b-eq10.true (n.ensures ∙ ap (min l.held) (sym l.invariant.carry)) (omega (arith, part_fits c.args.chunk.now c.args.out.now c.min-used.ensures)) g;
+          })
+      | else-b-eq10 w ↦
+          let k = w.hold_byte-held in
+          rw (w.out-is, w.held-is, w.session-is, w.region-is, w.carry-is) (record {
+            room = omega arith;
+            carry = ap length k.ensures.carry_after ∙ held_length l.carry l.held _ ∙ l.invariant.carry;
+            size = l.invariant.size;
+            same_reference = l.invariant.same_reference;
+            runs = running_byte l.invariant.runs c.loop-b-test.true w.if-b-eq10.false k.ensures.value k.ensures.carry_after;
+          })
+    ]
 
-pub returns : goal.returns
-returns c =
-    let a = c.args in
-    let n = c.least-n in
-    let fed = c.feed_all in
-    let used : fed.result.used ≡ n.result = fed.ensures.used ∙ length-take-le n.result a.chunk.now n.ensures.at_most_a in
-    record { used = used ∙ n.ensures.value; feeds = fed_part (at_hand a.session a.region.now a.carry.now a.held) a.chunk.now used fed.ensures.feeds; counts = fed.ensures.counts }
+pub returns-clause-feeds : goal.returns-clause-feeds
+returns-clause-feeds c =
+    feeds_left (search rules)
+    (running_end c.loop-b.invariant.runs c.loop-b-test.false (omega (arith, part_fits c.args.chunk.now c.args.out.now c.min-used.ensures)))

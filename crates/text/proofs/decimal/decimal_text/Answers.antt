@@ -1,25 +1,23 @@
 -- `decimal::decimal_text` meets its contract: the digits from `start` on are spelled, those of `rest` are still to be. Assumes nothing.
-use Prim.Native.Nat.{ℕ, suc, ◌-◌}
-use mathlib.Core.Path.{◌≡◌, subst}
 use native.Mathlib.Omega.{arith}
-use Rattle.text.proofs.Spelling.{Spelling, spelling_last, spelling_next, spelling_room, spelling_end}
+use lib.ListN.{length-set}
+use Rattle.text.proofs.Padding.{zeros_padded}
+use Rattle.text.proofs.Spelling.{spelling_none, spelling_left, spelling_next, spelling_last, spelling_zeros, spelling_room}
 use Rattle.text.proofs.decimal.decimal_text.Goals as goal
 
-pub loop-rest-init : goal.loop-rest-init
-loop-rest-init c = spelling_last c.args.n c.ranges.n.fits
+pub loop-start-init : goal.loop-start-init
+loop-start-init c = spelling_none c.args.n c.ranges.n.fits
 
-pub overflow_sub-start : goal.overflow_sub-start
-overflow_sub-start c = omega (arith, spelling_room _ _ _ _ c.loop-rest.invariant c.loop-rest-test.true)
+pub invariant_of-result : goal.invariant_of-result
+invariant_of-result c =
+    let s = c.loop-start.invariant in
+    zeros_padded (spelling_zeros (spelling_left s c.loop-start-test.true) (omega arith)) (simp length-set s.size)
 
-pub loop-rest-preserved : goal.loop-rest-preserved
-loop-rest-preserved c =
-    let l = c.loop-rest in
-    let n = c.args.n in
-    let some = c.loop-rest-test.true in
-    let k : l.start ≡ suc (l.start - 1) = omega (arith, spelling_room n l.digits l.start l.rest l.invariant some) in
-    spelling_next n l.digits (l.start - 1) l.rest (subst (λ (m : ℕ). Spelling n l.digits m l.rest) k l.invariant) some
+pub returns-then-rest-eq0 : goal.returns-then-rest-eq0
+returns-then-rest-eq0 c = spelling_last (spelling_left c.loop-start.invariant c.loop-start-test.true) (omega arith) c.if-rest-eq0.true
 
-pub returns : goal.returns
-returns c =
-    let l = c.loop-rest in
-    spelling_end c.args.n l.digits l.start l.rest l.invariant (omega arith)
+pub loop-start-preserved : goal.loop-start-preserved
+loop-start-preserved c = spelling_next (spelling_left c.loop-start.invariant c.loop-start-test.true) (omega arith) (omega arith)
+
+pub unreachable-requires : goal.unreachable-requires
+unreachable-requires c = spelling_room c.loop-start.invariant (omega arith)

@@ -2,8 +2,5 @@
 use Rattle.text.proofs.Spelling.{Spelling}
 use Rattle.text.proofs.decimal.decimal_text.Given as goal
 
-abbrev pub invariant-loop-rest : goal.invariant-loop-rest
-invariant-loop-rest l = Spelling l.n l.digits l.start l.rest
-
-abbrev pub decreases-loop-rest : goal.decreases-loop-rest
-decreases-loop-rest l = l.rest
+abbrev pub invariant-loop-start : goal.invariant-loop-start
+invariant-loop-start l = Spelling l.n l.digits l.start l.rest

@@ -1,12 +1,9 @@
 -- `stretch::end_of` meets its contract: the stretch from i on ends where the one from `at` on does. Assumes nothing.
-use Prim.Native.Nat.{◌+◌, ◌-◌, ◌≤◌}
+use Prim.Native.Nat.{◌+◌}
 use mathlib.Core.Path.{◌≡◌}
-use lib.ListN.{length, drop}
+use lib.ListN.{drop}
 use Rattle.text.specs.Stretches.{up_to}
 use Rattle.text.proofs.stretch.end_of.Given as goal
 
 abbrev pub invariant-loop-i : goal.invariant-loop-i
-invariant-loop-i l = (l.at ≤ length l.s → l.i ≤ length l.s) × (l.i + up_to l.x (drop l.i l.s) ≡ l.at + up_to l.x (drop l.at l.s))
-
-abbrev pub decreases-loop-i : goal.decreases-loop-i
-decreases-loop-i l = length l.s - l.i
+invariant-loop-i l = l.i + up_to l.x (drop l.i l.s) ≡ l.at + up_to l.x (drop l.at l.s)

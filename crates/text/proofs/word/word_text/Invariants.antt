@@ -1,5 +1,5 @@
--- `word::word_text` meets its contract: the digits before i, and then the last k of w, are all of them. Assumes nothing.
-use Prim.Native.Nat.{◌+◌}
+-- `word::word_text` meets its contract: the digits before i, and then the others of w, are all of them. Assumes nothing.
+use Prim.Native.Nat.{◌-◌}
 use mathlib.Core.Path.{◌≡◌}
 use mathlib.Core.List.{◌++◌}
 use lib.ListN.{length, take}
@@ -7,7 +7,4 @@ use Rattle.text.specs.Word.{hex_text, word_text}
 use Rattle.text.proofs.word.word_text.Given as goal
 
 abbrev pub invariant-loop-i : goal.invariant-loop-i
-invariant-loop-i l = (l.i + l.k ≡ 16) × (length l.text ≡ 16) × (take l.i l.text ++ hex_text l.k l.w ≡ word_text l.w)
-
-abbrev pub decreases-loop-i : goal.decreases-loop-i
-decreases-loop-i l = l.k
+invariant-loop-i l = (length l.text ≡ 16) × (take l.i l.text ++ hex_text (16 - l.i) l.w ≡ word_text l.w)

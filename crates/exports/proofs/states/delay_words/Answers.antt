@@ -1,5 +1,0 @@
--- `delay_words` has the state's values in order. Assumes nothing.
-use Rattle.exports.proofs.states.delay_words.Goals as goal
-
-pub returns : goal.returns
-returns c = simp (c.word_of_flag-2.ensures, c.word_of_flag.ensures, c.word_of_previous.ensures, c.word_of.ensures)

@@ -1,5 +1,0 @@
--- `hold_words` has the state's values in order. Assumes nothing.
-use Rattle.exports.proofs.states.hold_words.Goals as goal
-
-pub returns : goal.returns
-returns c = simp (c.word_of_previous.ensures, c.word_of.ensures, c.word_of_flag.ensures)

@@ -1,0 +1,6 @@
+-- `Out::put_counts` meets its contract: its pieces are the line. Assumes nothing.
+use Rattle.session.proofs.Putting.{puts_more}
+use Rattle.session.proofs.put.Out.put_counts.Goals as goal
+
+pub returns : goal.returns
+returns c = puts_more (puts_more (puts_more (puts_more c.put_bytes.ensures c.put_decimal.ensures) c.put_bytes-2.ensures) c.put_decimal-2.ensures) c.put_byte.ensures

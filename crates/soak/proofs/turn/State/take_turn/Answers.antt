@@ -1,0 +1,32 @@
+-- `State::take_turn` meets its contract: `feed` takes all that was read. Assumes nothing.
+use Prim.Native.Nat.{◌*◌, ◌≤◌}
+use mathlib.Core.Path.{sym}
+use borrow.Author.Rules.{rules}
+use native.Mathlib.Omega.{arith}
+use lib.ListN.{length}
+use Rattle.soak.proofs.Turns.{turn_taken, on_err, none_taken}
+use Rattle.soak.proofs.turn.State.take_turn.Goals as goal
+
+pub returns-clause-taken : goal.returns-clause-taken
+returns-clause-taken g c =
+    let a = c.args.self.now in
+    let buf = c.read.new.buf in
+    let n = c.in_ok-read.read in
+    let f = c.feed-fed.ensures in
+    let room : 32 * length buf ≤ length c.args.out.now = omega (arith, c.read.auto.buf, c.requires.chunk_in_bounds) in
+    turn_taken a.session a.held a.carry a.region buf n (search rules) room f.used f.feeds
+
+pub returns-in_err-read-clause-failed : goal.returns-in_err-read-clause-failed
+returns-in_err-read-clause-failed g c =
+    on_err c.from_residual.result
+    (record { read = 0; wrote = 0 }, none_taken c.args.self.now _ _ c.read.result c.read.new.buf c.args.out.now c.read.ensures.bytes (sym c.in_err-read.ensures.variant))
+
+pub returns-in_err-map_err-clause-failed : goal.returns-in_err-map_err-clause-failed
+returns-in_err-map_err-clause-failed g c =
+    let a = c.args.self.now in
+    let buf = c.read.new.buf in
+    let n = c.in_ok-read.read in
+    let fed = c.feed-fed in
+    let room : 32 * length buf ≤ length c.args.out.now = omega (arith, c.read.auto.buf, c.requires.chunk_in_bounds) in
+    on_err c.from_residual-in_err-map_err.result
+    (record { read = n; wrote = fed.result.wrote }, (turn_taken a.session a.held a.carry a.region buf n (search rules) room fed.ensures.used fed.ensures.feeds, search rules))

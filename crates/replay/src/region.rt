@@ -42,7 +42,7 @@ fn put_pairs(words: &[u64], at: usize, region: &mut [u64]) -> Option<usize>
     Some(next)
 }
 
-// The words of a line, and whether a region's stand among them by pairs.
+// The words of a line, and whether a region's stand among them by pairs: a bool, as `filled` and `ending` have it.
 #[derive(Clone, Copy)]
 pub struct Words<'a> {
     pub words: &'a [u64],

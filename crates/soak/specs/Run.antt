@@ -55,10 +55,14 @@ pub record Going (turns : ℕ) (s : State) : Type 0 where
   pub written : At input text s
   pub byte_each : turns ≤ length input
 
+-- a turn, in which all went well, and nothing was left to read
+pub record Last (t : Turn) : Type 0 where
+  pub nothing : t.read ≡ 0
+
 -- how no more than so many turns may end: by a turn that went well and found no more input, or by one that could not read, before which all
 -- went well, or that could not write; else all of them were taken
 abbrev pub Ends : (turns : ℕ) (old new : State) (from from' to to' : Option (List ℕ)) → Result Turn Stopped → Type 0
-Ends turns old new from from' to to' (Ok t) = (t.read ≡ 0) × Reached new × IsAtEnd from' × Leads old new from from' to to'
+Ends turns old new from from' to to' (Ok t) = Last t × Reached new × IsAtEnd from' × Leads old new from from' to to'
 Ends turns old new from from' to to' (Err (TurnFailed failed)) = Reached new × (failed.task ≡ Read → Leads old new from from' to to')
 Ends turns old new from from' to to' (Err TurnsRanOut) = Going turns new × Leads old new from from' to to'
 

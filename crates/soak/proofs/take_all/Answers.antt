@@ -9,7 +9,7 @@ returns-then-turn-eq0 g c =
     let t = c.take_turn.new in
     let turn = c.in_ok-turn in
     let before = c.loop-taken.invariant in (
-      c.if-turn-eq0.true,
+      record { nothing = c.if-turn-eq0.true },
       reached_on c.loop-taken.state t.self t.chunk t.out turn.turn turn.ensures.taken before.going,
       turn.ensures.moves.ends c.if-turn-eq0.true (omega (arith, before.chunk, c.take_turn.auto.chunk)),
       leads_on c.loop-taken.state t.self t.chunk t.out turn.turn turn.ensures.taken before.leads turn.ensures.moves.reads turn.ensures.moves.writes,

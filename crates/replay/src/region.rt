@@ -2,7 +2,7 @@
 ghost use Rattle.std.specs.Prelude.{length, replicate, true, false};
 ghost use Rattle.replay.specs.Region.{PutIn};
 
-// Two regions of the same length that calls are replayed on: the block's own, and one for what it is to hold.
+// Two regions that calls are replayed on: the block's own, and one for what it is to hold.
 #[derive(Drop)]
 pub struct Regions<'a> {
     pub region: &'a mut [u64],

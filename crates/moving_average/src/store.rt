@@ -63,7 +63,7 @@ impl<'a> Points<'a> {
     }
 
     // The last point but one is closer than the history resolves, or no slot is free.
-    #[tactic(auto, unfolding(crate::specs::Average::is_crowded))]
+    #[tactic(auto, using(window::proofs::Literals::two_is), unfolding(crate::specs::Average::is_crowded))]
     fn is_crowded(&self, resolution: f64, t: f64) -> bool
         ensures { result ≡ is_crowded self.now.region.now self.now.ring resolution t }
     {

@@ -26,7 +26,7 @@ impl ControllerConfig {
     }
 
     // The derivative term: what the filter lags behind, or yd_start on the first tick.
-    #[tactic(auto, using(crate::proofs::Literals::zero_is), unfolding(crate::specs::Recurrence::derivative))]
+    #[tactic(auto, using(reals::proofs::Words::zero_is), unfolding(crate::specs::Recurrence::derivative))]
     pub(crate) fn derivative_output(self, s: State, e: f64) -> f64
         ensures { result ≡ derivative self s e }
     {
@@ -63,7 +63,7 @@ impl ControllerConfig {
     }
 
     // The filter's value after this tick.
-    #[tactic(auto, using(crate::proofs::Literals::zero_is), unfolding(crate::specs::Recurrence::next_filter))]
+    #[tactic(auto, using(reals::proofs::Words::zero_is), unfolding(crate::specs::Recurrence::next_filter))]
     pub(crate) fn next_filter(self, s: State, e: f64, dt: f64) -> f64
         ensures { result ≡ next_filter self s e dt }
     {

@@ -8,7 +8,7 @@ use dynamics::{forward_euler_accumulate, is_rising};
 
 impl ControllerConfig {
     // What the integrator adds to the sum.
-    #[tactic(auto, using(crate::proofs::Literals::zero_is), unfolding(crate::specs::Recurrence::integral))]
+    #[tactic(auto, using(reals::proofs::Words::zero_is), unfolding(crate::specs::Recurrence::integral))]
     pub(crate) fn integral_output(self, s: State) -> f64
         ensures { result ≡ integral self s }
     {
@@ -31,7 +31,7 @@ impl ControllerConfig {
     }
 
     // The integrator after this tick: solved back from y_reset on a rising trigger, else one step further.
-    #[tactic(auto, using(crate::proofs::Literals::zero_is), unfolding(crate::specs::Recurrence::next_integrator, crate::specs::Recurrence::solved_back))]
+    #[tactic(auto, using(reals::proofs::Words::zero_is), unfolding(crate::specs::Recurrence::next_integrator, crate::specs::Recurrence::solved_back))]
     pub(crate) fn next_integrator(self, s: State, terms: Terms, dt: f64, trigger: bool) -> f64
         ensures { result ≡ next_integrator self s terms dt trigger }
     {

@@ -6,6 +6,7 @@ use mathlib.Core.Path.{◌≡◌, refl, sym, ◌∙◌, ap}
 use mathlib.Core.Bool.{Bool, true, false, cond}
 use mathlib.Core.Logic.{⊎_elim}
 use Rattle.std.specs.Prelude.{Some, None}
+use Rattle.std.specs.Borrow.{Bor}
 use mathlib.Core.Option.{Option, none, some, none-ne-some, some-injective}
 use mathlib.Core.List.{List, [], ◌∷◌, ◌++◌, append-nil}
 use borrow.Author.Tests.{ltb-true, ltb-false, eq-eqb, ne_eqb}
@@ -18,7 +19,7 @@ use Rattle.std.specs.Prelude as block
 use Rattle.sheet.specs.declared.row.Row.{Row}
 use Rattle.sheet.proofs.Stretches.{either}
 use Rattle.exports.specs.Calls.{by_name}
-use Rattle.sheet.specs.Table.{table_rows}
+use Rattle.sheet.specs.Table.{table_rows, rows_of}
 use Rattle.exports.specs.Sheets.{settings_at, words_per_row, settings_read, row_with, row_by, below, rows_by, rows_named, by_rows, Bare, Tabled}
 use Rattle.sheet.specs.declared.table.Table.{Table}
 
@@ -154,11 +155,11 @@ module _ (w : List ℕ) where
       let z : on.left ≡ 0 = omega (arith, h, on.long) in
       on.rows ∙ rw z (ap some (append-nil on.so_far))
 
--- ---- the table that is given
+-- ---- the rows that are lent
 module _ (w : List ℕ) where
   no_rows : rows_named w ≡ none → Tabled (rows_named w) None
   unfolding by_rows
-  no_rows e = rw e (record { named = refl; first = λ rs by z. absurd (none-ne-some rs z) })
+  no_rows e = rw e (record { named = refl; first = λ rs lent z. absurd (none-ne-some rs z) })
 
   -- the words are not whole rows
   pub tabled_odd : (length w % words_per_row ≡ 0 → ⊥) → Tabled (rows_named w) None
@@ -171,8 +172,8 @@ module _ (w : List ℕ) where
   tabled_nothing whole e = no_rows (rw (eq-eqb _ _ whole, e) refl)
 
   -- every row names one
-  pub tabled_all : {t : Table} {rest : List ℕ} → length w % words_per_row ≡ 0 → Tabling w t rest → length rest < words_per_row → Tabled (rows_named w) (Some t)
+  pub tabled_all : {t : Table} {rest : List ℕ} → length w % words_per_row ≡ 0 → Tabling w t rest → length rest < words_per_row → {lent : Bor (List Row)} → lent.now ≡ rows_of t → Tabled (rows_named w) (Some lent)
   unfolding rows_named by_rows
-  tabled_all {t} whole on h =
+  tabled_all whole on h {lent} is =
       let named : rows_named w ≡ some on.so_far = rw (eq-eqb _ _ whole, tabling_all w on h) refl in
-      rw named (record { named = refl; first = λ rs by y z. let e : by ≡ t = cc in rw e (on.shows ∙ ap (take table_rows) (some-injective on.so_far rs y)) })
+      rw named (record { named = refl; first = λ rs other y z. let e : other ≡ lent = cc in rw (e, is) (on.shows ∙ ap (take table_rows) (some-injective on.so_far rs y)) })

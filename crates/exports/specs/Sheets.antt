@@ -1,6 +1,7 @@
 -- The sheet's calls over words, by the rows that the words name; words of which a row names no block are refused with 13. Definitions only.
 use Rattle.std.specs.Prelude.{ℕ, zero, suc, ◌+◌, ◌/◌, ◌%◌, ◌≡◌, true, false, cond, List, [], ◌∷◌, eqb, ltb, length, get_or, take, drop}
 use Rattle.std.specs.Prelude.{Option as Perhaps, Some}
+use Rattle.std.specs.Borrow.{Bor}
 use Rattle.std.specs.Option.{is_some}
 use Rattle.std.proofs.Math.Option.{Option, none, some}
 use Rattle.reals.specs.Words.{real_of, word_of_flag}
@@ -74,10 +75,10 @@ pub record Bare (t : Table) : Type 0 where
   pub none_yet : t.count ≡ 0
   pub places : length t.rows ≡ table_rows
 
--- such rows in a table, if there are any: the first of them
-pub record Tabled (o : Option (List Row)) (t : Perhaps Table) : Type 0 where
-  pub named : is_some t ≡ by_rows o (λ rs. true) false
-  pub first : (rs : List Row) (by : Table) → o ≡ some rs → t ≡ Some by → rows_of by ≡ take table_rows rs
+-- such rows, if there are any: as many as a table shows
+pub record Tabled (o : Option (List Row)) (shown : Perhaps (Bor (List Row))) : Type 0 where
+  pub named : is_some shown ≡ by_rows o (λ rs. true) false
+  pub first : (rs : List Row) (lent : Bor (List Row)) → o ≡ some rs → shown ≡ Some lent → lent.now ≡ take table_rows rs
 
 -- ---- the calls: the sheet's over the rows, or 13 and nothing written
 pub record StartsBy (o : Option (List Row)) (region : List ℕ) (r : SheetWords) (left : List ℕ) : Type 0 where

@@ -5,15 +5,12 @@ ghost use Rattle.exports.specs.Sheets.{sheet_crossed, no_sheet, tick_by, words_p
 use crate::boundary::NO_BLOCK;
 use blocks::{Block, CONTROLLER_SETTINGS, Tick, block_of};
 use reals::{real_of, word_of_flag};
-use sheet::{Row, SheetAnswer, TABLE_ROWS, Table, start_table, tick_table};
+use sheet::{Row, SheetAnswer, TABLE_ROWS, Table, start, tick};
 
 // Where a row's settings begin, and how many words it has: no block has more settings than a controller.
 const SETTINGS_AT: usize = 4;
 
 const WORDS_PER_ROW: usize = SETTINGS_AT + CONTROLLER_SETTINGS;
-
-// The columns of a row that is not shown, which nothing reads; why they are no zeros stands at `blank`.
-const NO_COLUMN: u64 = 8;
 
 // The refusal number, the row at fault, and whether any row warned, as 0 or 1.
 #[repr(C)]
@@ -24,8 +21,9 @@ pub struct SheetWords {
     pub warning: u64,
 }
 
+// What a sheet answers, in words.
 impl From<SheetAnswer> for SheetWords {
-    ghost from_gives = { λ a w. w ≡ sheet_crossed a };
+    ghost from_gives = { λ a words. words ≡ sheet_crossed a };
 
     #[tactic(auto, unfolding(crate::specs::Sheets::sheet_crossed))]
     fn from(a: SheetAnswer) -> SheetWords {
@@ -52,10 +50,9 @@ fn no_sheet() -> SheetWords
 fn tick_by(time: u64, words: &[u64; 8]) -> Tick
     ensures { result ≡ tick_by time words.now }
 {
-    let held = *words;
     Tick {
         time: real_of(time),
-        words: held,
+        words: *words,
     }
 }
 
@@ -85,56 +82,59 @@ fn row_with(block: Block, words: &[u64]) -> Row
     }
 }
 
-// A row that stands where none is shown. With zeros for its columns the compiler copies all of a blank row to each place, where
-// it now writes the few words that are told.
+// A row that stands where none is shown.
 fn blank() -> Row {
     Row {
         block: Block::TrueHoldWithReset { duration: 0.0 },
-        first: NO_COLUMN,
-        second: NO_COLUMN,
-        third: NO_COLUMN,
+        first: 0,
+        second: 0,
+        third: 0,
     }
 }
 
-// A table without rows, that has all its places.
+// A table without rows, that has all its places. Inlined, each of the two calls would have all its words written out.
+#[inline(never)]
 fn no_table() -> Table
     ensures { Bare result }
 {
-    let row = blank();
-    let rows = [row; TABLE_ROWS];
-    Table { rows, count: 0 }
+    Table {
+        rows: [blank(); TABLE_ROWS],
+        count: 0,
+    }
 }
 
-// The rows that all words are, of which a table shows the first; nothing if the words are not whole rows, or a row names no block.
-// A row's block is copied once, from what `block_of` gives to its place.
+// The rows that all words are, as many as a table shows; nothing if the words are not whole rows, or a row names no block. The table is
+// lent: in an `Option<Table>` it is copied on the way out, and a start takes 9480 bytes of stack, more than the 8192 that oven.h and
+// docs/TRUST.md name. A row's block is copied once, from what `block_of` gives to its place.
 #[tactic(auto, using(crate::proofs::Tabling::few_settings))]
-fn table_of(words: &[u64]) -> Option<Table>
+fn read_rows<'a>(words: &[u64], table: &'a mut Table) -> Option<&'a [Row]>
+    requires { Bare table.old }
     ensures { Tabled (rows_named words.now) result }
 {
     if words.len() % WORDS_PER_ROW != 0 {
         return None;
     }
-    let mut read = no_table();
     for row in words.chunks_exact(WORDS_PER_ROW) {
         let number = row[0];
         let stop = SETTINGS_AT + settings_read(number);
         let block = block_of(number, &row[SETTINGS_AT..stop])?;
-        if read.count < TABLE_ROWS {
-            read.rows[read.count] = row_with(block, row);
+        if table.count < TABLE_ROWS {
+            table.rows[table.count] = row_with(block, row);
         }
-        read.count += 1;
+        table.count += 1;
     }
-    Some(read)
+    Some(table.shown())
 }
 
 // Starts the sheet over these rows. 13 comes first: the words are not whole rows, or a row names no block.
 pub fn oven_sheet_start(rows: &[u64], region: &mut [u64]) -> SheetWords
     ensures { StartsBy (rows_named rows.now) region.old result region.new }
 {
-    let Some(table) = table_of(rows) else {
+    let mut table = no_table();
+    let Some(read) = read_rows(rows, &mut table) else {
         return no_sheet();
     };
-    start_table(table, region).into()
+    start(read, region).into()
 }
 
 // One tick of the sheet over these rows. 13 comes first, as for a start.
@@ -147,8 +147,9 @@ pub fn oven_sheet_tick(
 ) -> SheetWords
     ensures { TicksBy (rows_named rows.now) (tick_by time words.now) region.old answers.old result region.new answers.new }
 {
-    let Some(table) = table_of(rows) else {
+    let mut table = no_table();
+    let Some(read) = read_rows(rows, &mut table) else {
         return no_sheet();
     };
-    tick_table(table, tick_by(time, words), region, answers).into()
+    tick(read, tick_by(time, words), region, answers).into()
 }

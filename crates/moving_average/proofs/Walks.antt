@@ -1,9 +1,8 @@
 -- A walk that has passed i of the k positions from a on: one law for each step of a counting loop. Assumes nothing.
-use mathlib.Core.Path.{◌≡◌, refl, ap}
+use mathlib.Core.Path.{◌≡◌, refl}
 use mathlib.Core.Bool.{Bool, true, false, cond}
 use mathlib.Core.List.{List}
 use Prim.Native.Nat.{ℕ, zero, suc, ◌+◌, ◌-◌, ◌≤◌, ◌<◌}
-use native.Mathlib.Nat.{add-zero, sub-zero}
 use native.Mathlib.Omega.{arith}
 use lib.Ieee.{Float}
 use Rattle.moving_average.specs.Ring.{Holds, leading, edge_of, expired_of}
@@ -27,9 +26,6 @@ module _ (p : ℕ → Bool) where
 
   abbrev pub Passed : ℕ → ℕ → ℕ → Type 0
   Passed a k i = (i ≤ k) × (leading p a k ≡ i + leading p (a + i) (k - i))
-
-  pub passed_none : (a k : ℕ) → Passed a k 0
-  passed_none a k = (omega arith, omega (arith, ap (λ (x : ℕ). leading p x k) (add-zero a), ap (λ (x : ℕ). leading p (a + 0) x) (sub-zero k)))
 
   pub passed_more : (a k i m : ℕ) → i < k → m ≡ a + i → Passed a k i → p m ≡ true → Passed a k (i + 1)
   passed_more a k i m h e w t =

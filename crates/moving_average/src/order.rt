@@ -13,8 +13,10 @@ use reals::is_finite;
 impl<'a> Points<'a> {
     // Along the slots from one up to another: the last time, if none is below the one before; else NaN, which is at or below no time.
     // The first is held against `last`.
+    #[tactic(auto, using(window::proofs::Climbs::left_none, window::proofs::Climbs::left_on))]
     fn climb(&self, from: usize, to: usize, last: f64) -> f64
-        requires { (from ≤ to) × (to ≤ self.now.ring.capacity) }
+        requires forward { from ≤ to }
+        requires inside { to ≤ self.now.ring.capacity }
         ensures { result ≡ climbed (slot_time self.now.region.now) from (to - from) last }
     {
         let mut top = last;
@@ -37,6 +39,7 @@ impl<'a> Points<'a> {
     }
 
     // The same along all positions: the slots from the head on, and those past the turn.
+    #[tactic(auto, using(crate::proofs::Stretches::straight, crate::proofs::Stretches::turned))]
     fn climb_all(&self, last: f64) -> f64
         ensures { result ≡ climbed (time_at self.now.region.now self.now.ring) 0 self.now.ring.count last }
     {
@@ -49,6 +52,7 @@ impl<'a> Points<'a> {
     }
 
     // Whether the times are in order up to a previous time, which is finite.
+    #[tactic(auto, using(window::proofs::Climbs::none_walked, window::proofs::Climbs::walk_else, window::proofs::Climbs::walk_then))]
     fn is_ordered_to(&self, previous: f64) -> bool
         requires { finite previous ≡ true }
         ensures { result ≡ is_ordered (time_at self.now.region.now self.now.ring) self.now.ring.count (Some previous) }
@@ -64,6 +68,7 @@ impl<'a> Points<'a> {
     }
 
     // Whether the times are in order; before the first tick there are none.
+    #[tactic(auto, using(window::proofs::Climbs::unset_ordered))]
     pub(crate) fn is_ordered(&self, previous: Previous) -> bool
         requires { sound_previous previous ≡ true }
         ensures { result ≡ is_ordered (time_at self.now.region.now self.now.ring) self.now.ring.count previous }

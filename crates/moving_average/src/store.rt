@@ -63,7 +63,7 @@ impl<'a> Points<'a> {
     }
 
     // The last point but one is closer than the history resolves, or no slot is free.
-    #[tactic(auto, unfolding(crate::specs::Average::is_crowded))]
+    #[tactic(auto, using(window::proofs::Literals::two_is), unfolding(crate::specs::Average::is_crowded))]
     fn is_crowded(&self, resolution: f64, t: f64) -> bool
         ensures { result ≡ is_crowded self.now.region.now self.now.ring resolution t }
     {
@@ -105,8 +105,10 @@ fn same_time(a: u64, b: u64) -> bool
 
 impl Step {
     // Writes the first six words, and the two of the tick's point.
+    #[tactic(auto, using(crate::proofs::Places::time_within, crate::proofs::Places::mu_within, crate::proofs::Stores::six_written), unfolding(crate::specs::Average::written))]
     pub(crate) fn write(self, region: &mut [u64])
-        requires { Holds region.old self.ring × (self.place.position ≤ self.ring.capacity) }
+        requires holds { Holds region.old self.ring }
+        requires inside { self.place.position ≤ self.ring.capacity }
         ensures { region.new ≡ written region.old self }
     {
         let points = Points {

@@ -3,12 +3,12 @@ use mathlib.Core.Path.{◌≡◌, refl, sym, ap, ◌∙◌, subst}
 use Prim.Native.Nat.{ℕ, ◌%◌, ◌^◌, ◌<◌}
 use mathlib.Core.Bool.{Bool, true, false, not, cond, true≢false}
 use lib.Dec.{T, ltb}
-use lib.Ieee.{Float, nan, inf, fin, binary64, to_bits, fits, is_nan, nan_bits}
+use lib.Ieee.{Float, nan, inf, fin, binary64, of_bits, to_bits, fits, is_nan, nan_bits}
 use lib.Ieee.Bits.{of_bits-to_bits, to_bits-lt, of_bits-fits, to_bits-of_bits, nan_bits_is, nan_bits_above}
 use lib.Ieee.Fits.{round-fits}
 use lib.Ieee.Scale.{finite}
 use Rattle.std.specs.Float.{float_is_finite}
-use Rattle.reals.specs.Words.{nearest, real_of, word_of, canonical_word, flag_of, word_of_flag}
+use Rattle.reals.specs.Words.{0·0, nearest, real_of, word_of, canonical_word, flag_of, word_of_flag}
 
 -- ---- which patterns and which reals are NaN
 pub nan_of : (x : Float) → is_nan x ≡ true → x ≡ nan
@@ -72,3 +72,12 @@ unfolding float_is_finite
 finite_is nan = refl
 finite_is (inf s) = refl
 finite_is (fin s m e) = refl
+
+-- ---- 0.0 and NAN of the code are the 0·0 and the `nan` of the definitions
+pub zero_is : of_bits binary64 0 ≡ 0·0
+unfolding of_bits
+zero_is = refl
+
+pub nan_is : of_bits binary64 0x7ff8_0000_0000_0000 ≡ nan
+unfolding of_bits
+nan_is = refl

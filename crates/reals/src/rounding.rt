@@ -8,6 +8,7 @@ ghost use Rattle.reals.specs.Rounding.{magnitude, whole, upward, downward};
 const TWO_52: f64 = 4503599627370496.0;
 
 // The same size without its sign.
+#[tactic(auto, using(crate::proofs::Magnitude::magnitude_is))]
 pub fn absolute(x: f64) -> f64
     ensures { result ≡ magnitude x }
 {

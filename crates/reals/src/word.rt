@@ -12,6 +12,7 @@ const NAN_BITS: u64 = 0x7ff8_0000_0000_0000;
 const SIGN_BIT: u64 = 0x8000_0000_0000_0000;
 
 // Whether a word is the pattern of a NaN.
+#[tactic(auto, using(crate::proofs::Words::nan_above))]
 fn is_nan_word(w: u64) -> bool
     ensures { result ≡ is_nan (real_of w) }
 {
@@ -19,6 +20,7 @@ fn is_nan_word(w: u64) -> bool
 }
 
 // The real that a stored word means; every NaN pattern means the one NaN.
+#[tactic(auto, using(crate::proofs::Words::nan_is, crate::proofs::Words::nan_of, crate::proofs::Words::number_bits))]
 pub fn real_of(w: u64) -> f64
     ensures { result ≡ real_of w }
 {
@@ -29,6 +31,7 @@ pub fn real_of(w: u64) -> f64
 }
 
 // The word that stores a real; a NaN is stored as the canonical one.
+#[tactic(auto, using(crate::proofs::Words::nan_of, crate::proofs::Words::word_nan))]
 pub fn word_of(x: f64) -> u64
     ensures { result ≡ word_of x }
 {
@@ -39,6 +42,7 @@ pub fn word_of(x: f64) -> u64
 }
 
 // The word with every NaN made the canonical one; other words stay.
+#[tactic(auto, using(crate::proofs::Words::canonical_is))]
 pub fn canonical(w: u64) -> u64
     ensures { result ≡ canonical_word w }
 {
@@ -60,6 +64,7 @@ pub fn word_of_flag(b: bool) -> u64
 }
 
 // Neither a NaN nor an infinity.
+#[tactic(auto, using(crate::proofs::Words::finite_is))]
 pub fn is_finite(x: f64) -> bool
     ensures { result ≡ finite x }
 {

@@ -2,7 +2,7 @@
 ghost use Rattle.std.specs.Prelude.{length, replicate, true, false};
 ghost use Rattle.replay.specs.Region.{PutIn};
 
-// Two regions of the same length that calls are replayed on: the block's own, and one for what it is to hold.
+// Two regions that calls are replayed on: the block's own, and one for what it is to hold.
 #[derive(Drop)]
 pub struct Regions<'a> {
     pub region: &'a mut [u64],
@@ -42,7 +42,7 @@ fn put_pairs(words: &[u64], at: usize, region: &mut [u64]) -> Option<usize>
     Some(next)
 }
 
-// The words of a line, and whether a region's stand among them by pairs.
+// The words of a line, and whether a region's stand among them by pairs: a bool, as `filled` and `ending` have it.
 #[derive(Clone, Copy)]
 pub struct Words<'a> {
     pub words: &'a [u64],

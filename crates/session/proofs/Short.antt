@@ -40,6 +40,10 @@ block_short (TrueFalseHold long_true long_false) = omega arith
 block_short (TrueHoldWithReset duration) = omega arith
 block_short (LogicalVariablePulse period delta least) = omega arith
 
+-- the name alone
+pub name_short : (b : Block) → length (form_of b).name ≤ 25
+name_short b = omega (arith, block_short b, length-append (bytes "block " ++ (form_of b).name) (bytes "\n"), length-append (bytes "block ") (form_of b).name)
+
 refusal_short : (n : ℕ) → length (refusal_text n) ≤ 32
 refusal_short n = simp length-append (omega (arith, length_decimal_most n))
 

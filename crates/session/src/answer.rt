@@ -1,9 +1,27 @@
 // The lines that soak writes. None but the last has more than 32 bytes.
+ghost use Rattle.std.specs.Prelude.{◌≡◌};
+ghost use Rattle.lines.specs.Forms.{form_of};
+
 use crate::put::Out;
 use blocks::Block;
 use dynamics::Answer;
 use reals::word_of;
 use text::{flag_digit, word_text};
+
+fn name_of(block: Block) -> &'static [u8]
+    ensures { result.now ≡ (form_of block).name }
+{
+    match block {
+        Block::Pid(_) => b"Pid",
+        Block::PidWithReset(_) => b"PidWithReset",
+        Block::MovingAverage { .. } => b"MovingAverage",
+        Block::TimerAccumulating { .. } => b"TimerAccumulating",
+        Block::TrueDelay { .. } => b"TrueDelay",
+        Block::TrueFalseHold { .. } => b"TrueFalseHold",
+        Block::TrueHoldWithReset { .. } => b"TrueHoldWithReset",
+        Block::LogicalVariablePulse { .. } => b"LogicalVariablePulse",
+    }
+}
 
 impl Out<'_> {
     ghost use Rattle.reals.specs.Words.{word_of};
@@ -33,20 +51,14 @@ impl Out<'_> {
     }
 
     // A block that starts.
+    #[tactic(auto, using(crate::proofs::Short::name_short))]
     pub(crate) fn put_block(&mut self, block: Block)
         requires { HasRoom self.old 32 }
         ensures { Puts self.old (block_text block) self.new }
     {
-        match block {
-            Block::Pid(_) => self.put_bytes(b"block Pid\n"),
-            Block::PidWithReset(_) => self.put_bytes(b"block PidWithReset\n"),
-            Block::MovingAverage { .. } => self.put_bytes(b"block MovingAverage\n"),
-            Block::TimerAccumulating { .. } => self.put_bytes(b"block TimerAccumulating\n"),
-            Block::TrueDelay { .. } => self.put_bytes(b"block TrueDelay\n"),
-            Block::TrueFalseHold { .. } => self.put_bytes(b"block TrueFalseHold\n"),
-            Block::TrueHoldWithReset { .. } => self.put_bytes(b"block TrueHoldWithReset\n"),
-            Block::LogicalVariablePulse { .. } => self.put_bytes(b"block LogicalVariablePulse\n"),
-        }
+        self.put_bytes(b"block ");
+        self.put_bytes(name_of(block));
+        self.put_byte(b'\n');
     }
 
     fn put_real(&mut self, x: f64)

@@ -20,8 +20,13 @@ use Rattle.sheet.specs.declared.row.Row.{Row}
 use Rattle.sheet.specs.declared.row.SheetAnswer.{SheetAnswer}
 use Rattle.sheet.specs.contracts.start as start
 use Rattle.sheet.specs.contracts.tick as tick
+use Rattle.sheet.proofs.table.Table.shown.Reads as shown
 use Rattle.sheet.proofs.table.start_table.Reads as start_table
 use Rattle.sheet.proofs.table.tick_table.Reads as tick_table
+
+-- ---- the rows that a table lends: one list, wherever it lies
+pub shown_once : (κs : Lfts 1) (a : _) (x y : _) (s t : _) → shown.Post κs a x s → shown.Post κs a y t → x.now ≡ y.now
+shown_once κs a x y s t p q = p ∙ sym q
 
 -- ---- the calls that take a table: over the contract as the check reads it
 pub start_table_once : OnceLeft start_table.Post (λ κs s. s.1.0.now)

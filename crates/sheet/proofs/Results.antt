@@ -23,7 +23,7 @@ use Rattle.dynamics.proofs.Accepted as by
 use Rattle.blocks.specs.declared.block.Tick.{Tick}
 use Rattle.sheet.specs.Rows.{width_of, Placed, placed, every, any_of, first_failing, joined}
 use Rattle.sheet.specs.Sheet.{most_rows, input_words, row_answers, few_rows, all_reach, settled, decodes, on_time, start_number, tick_number, row_at_fault, start_row, starts_on, SheetStarted, tick_said, SheetTicked, fed, warns_of, left_of}
-use Rattle.sheet.specs.Walk.{columns, Carried, carried, fault, refused, past_fault, ready, begun, surveyed, formed, unless_found, answer_of, survey_turn, start_turn, emitted_row, updated_row, walked, again, Ended, starting, ticking, InSight, blank, handed_out, Left}
+use Rattle.sheet.specs.Walk.{columns, Carried, carried, fault, refused, past_fault, ready, begun, surveyed, formed, without_fault, answer_of, survey_turn, start_turn, emitted_row, updated_row, walked, again, Ended, starting, ticking, InSight, handed_out, Left}
 use Rattle.sheet.specs.declared.row.Row.{Row}
 use Rattle.sheet.specs.declared.seen.Seen.{Seen}
 use Rattle.sheet.specs.declared.walk.Fault.{Fault}
@@ -341,9 +341,9 @@ module _ (k : Tick) (rs : List Row) (ws os : List ℕ) (seen : Seen) (sight : In
     tick_2 e = rw (b, ← carries l, rw same at e) at tick_is
 
     module _ {y : Unit {0}} (e : formed w (length rs) (length ws₁) (length os) time ≡ Ok y) {w' : Walk} {ws₂ : List ℕ} {os₂ : Seen} (m : Left (walked emitted_row time 0 rs (carried ready ws₁ os₁)) w' ws₂ os₂) where
-      pub tick_3 : {f : Fault} → unless_found w' ≡ Err f → SheetTicked k rs ws os (answer_of (Err f)) ws₂ os
+      pub tick_3 : {f : Fault} → without_fault w' ≡ Err f → SheetTicked k rs ws os (answer_of (Err f)) ws₂ os
       tick_3 g = rw (b, ← carries l, rw same at e, ← carries m, g) at tick_is
 
-      pub tick_all : {z : Unit {0}} → unless_found w' ≡ Ok z → {w'' : Walk} {ws₃ : List ℕ} {os₃ : Seen} → Left (walked updated_row time 0 rs (carried ready ws₂ os₂)) w'' ws₃ os₃
+      pub tick_all : {z : Unit {0}} → without_fault w' ≡ Ok z → {w'' : Walk} {ws₃ : List ℕ} {os₃ : Seen} → Left (walked updated_row time 0 rs (carried ready ws₂ os₂)) w'' ws₃ os₃
           → SheetTicked k rs ws os (answer_of (Ok w''.warning)) ws₃ (take (length os) (drop input_words os₃.words))
       tick_all g n = rw (b, ← carries l, rw same at e, ← carries m, g, ← carries n) at tick_is

@@ -1,17 +1,12 @@
 -- Tests over lists, and work on stretches of a region that lie end to end. Assumes nothing.
-use Prim.Native.Nat.{ℕ, suc, ◌+◌, ◌-◌, ◌*◌, ◌≤◌, ◌<◌}
+use Prim.Native.Nat.{ℕ, suc, ◌+◌, ◌-◌, ◌≤◌, ◌<◌}
 use native.Mathlib.Omega.{arith}
 use mathlib.Core.Path.{◌≡◌, refl, sym, ◌∙◌, ap}
-use mathlib.Core.Bool.{Bool, true, false, ◌&&◌}
-use mathlib.Core.Logic.{◌⊎◌, inl, inr, ⊎_elim}
+use mathlib.Core.Bool.{Bool, true, false}
+use mathlib.Core.Logic.{◌⊎◌, inl, inr}
 use mathlib.Core.List.{List, [], ◌∷◌, ◌++◌, append_assoc}
-use borrow.Author.Tests.{leb-true, leb-false, le-leb, lt-leb, eqb-true, eqb-false, eq-eqb, ne_eqb}
-use lib.Dec.{eqb, leb}
-use lib.ListN.{length, take, drop, set, get_or, length-append, length-set, length-drop}
+use lib.ListN.{length, take, drop, set, length-append, length-set, length-drop}
 use lib.Seq.{take_at, drop_at, length-take-le, take-suc-set, take-take, take-add}
-use Rattle.reals.proofs.Values.{both}
-use Rattle.dynamics.specs.Region.{stored}
-use Rattle.sheet.specs.Sheet.{most_rows, input_words, row_answers}
 
 -- ---- a test passes or it does not
 pub either : (b : Bool) → (b ≡ true) ⊎ (b ≡ false)

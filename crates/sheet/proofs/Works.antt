@@ -1,5 +1,5 @@
 -- What the walks that write leave: each row's work on its own stretch, end to end. Assumes nothing.
-use Prim.Native.Nat.{ℕ, ◌+◌, ◌*◌, ◌≤◌, ◌<◌}
+use Prim.Native.Nat.{ℕ, ◌+◌, ◌*◌, ◌≤◌}
 use native.Mathlib.Omega.{arith}
 use mathlib.Core.Path.{◌≡◌, refl, sym, ◌∙◌}
 use mathlib.Core.Bool.{Bool, true, false, ◌||◌, or_assoc, or-false}
@@ -61,6 +61,7 @@ abbrev pub working : ℕ → Bool → Walk
 working at warning = record { fault = None; at = at; warning = warning }
 
 pub record Works (c : Carried) (warning : Bool) (ws : List ℕ) (seen : Seen) : Type 0 where
+  pub fault_is : c.found.fault ≡ None
   pub warning_is : c.found.warning ≡ warning
   pub region_is : c.region ≡ ws
   pub seen_is : c.seen ≡ seen
@@ -76,6 +77,7 @@ module _ (time : Float) where
       → Works (walked start_turn time n rs (carried (working at false) ws seen)) false (take at ws ++ joined starts_on (placed rs (drop at ws))) seen
   unfolding walked width_of every
   started n [] at ws seen all e = record {
+    fault_is = refl;
     warning_is = refl;
     region_is = sym (unfold placed joined in append-nil (take at ws) ∙ take_all at ws (omega arith));
     seen_is = refl;
@@ -120,6 +122,7 @@ module _ (k : Tick) (answers : List ℕ) (seen : Seen) (many : ℕ) (eight : len
       (take at ws ++ joined leaves (placed rs (drop at ws))) seen
   unfolding walked width_of every EndsAre
   updated n [] at warning ws all here e = record {
+    fault_is = refl;
     warning_is = sym (unfold placed any_of in or-false warning);
     region_is = sym (unfold placed joined in append-nil (take at ws) ∙ take_all at ws (omega arith));
     seen_is = refl;

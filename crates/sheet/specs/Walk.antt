@@ -163,8 +163,8 @@ abbrev pub past_fault : Option Fault → Result Unit Fault → Result Unit Fault
 past_fault None next = next
 past_fault (Some f) next = Err f
 
-abbrev pub unless_found : Walk → Result Unit Fault
-unless_found w = past_fault w.fault (Ok tt)
+abbrev pub without_fault : Walk → Result Unit Fault
+without_fault w = past_fault w.fault (Ok tt)
 
 -- a survey: test 3 too
 unfoldable pub surveyed : Walk → ℕ → Result Unit Fault
@@ -230,4 +230,4 @@ ticking time rs ws seen space =
     let emits = again emitted_row time rs looked in
     unless (begun (length rs)) c
     (unless (formed looked.found (length rs) (length ws) space time) looked
-    (unless (unless_found emits.found) emits (done (again updated_row time rs emits))))
+    (unless (without_fault emits.found) emits (done (again updated_row time rs emits))))

@@ -16,7 +16,7 @@ pub use row::{Row, SheetAnswer};
 use seen::{INPUT_WORDS, Seen};
 pub use table::{TABLE_ROWS, Table, start_table, tick_table};
 use turn::{Emit, Pass, Start, Survey, Update};
-use walk::{Fault, Walk, answer_of, begun};
+use walk::{Fault, Walk, begun};
 
 // One walk over the rows: each is handed, with its number, to the pass.
 fn walk_rows<P: Pass>(rows: &[Row], time: f64, region: &mut [u64], seen: &mut Seen) -> Walk
@@ -30,8 +30,8 @@ fn walk_rows<P: Pass>(rows: &[Row], time: f64, region: &mut [u64], seen: &mut Se
     walk
 }
 
-#[tactic(auto, using(crate::proofs::Results::few_of))]
 // A start: a survey of the rows, then their fresh words. It never warns.
+#[tactic(auto, using(crate::proofs::Results::few_of))]
 fn started(rows: &[Row], region: &mut [u64]) -> Result<bool, Fault>
     ensures { SheetStarted rows.now region.old (answer_of result) region.new }
 {
@@ -43,8 +43,8 @@ fn started(rows: &[Row], region: &mut [u64]) -> Result<bool, Fault>
     Ok(started.warning)
 }
 
-#[tactic(auto, using(crate::proofs::Results::few_of, crate::proofs::Results::space_of))]
 // A tick: a survey, then all rows emit, then all update; their answers are handed out last.
+#[tactic(auto, using(crate::proofs::Results::few_of, crate::proofs::Results::space_of))]
 fn ticked(rows: &[Row], tick: Tick, region: &mut [u64], answers: &mut [u64]) -> Result<bool, Fault>
     ensures { SheetTicked tick rows.now region.old answers.old (answer_of result) region.new answers.new }
 {
@@ -53,7 +53,7 @@ fn ticked(rows: &[Row], tick: Tick, region: &mut [u64], answers: &mut [u64]) -> 
     let survey = walk_rows::<Survey>(rows, tick.time, region, &mut seen);
     survey.formed(rows.len(), region.len(), answers.len(), tick.time)?;
     let emits = walk_rows::<Emit>(rows, tick.time, region, &mut seen);
-    emits.unless_found()?;
+    emits.without_fault()?;
     let updates = walk_rows::<Update>(rows, tick.time, region, &mut seen);
     let end = INPUT_WORDS + answers.len();
     answers.copy_from_slice(&seen.words[INPUT_WORDS..end]);
@@ -64,13 +64,12 @@ fn ticked(rows: &[Row], tick: Tick, region: &mut [u64], answers: &mut [u64]) -> 
 pub fn start(rows: &[Row], region: &mut [u64]) -> SheetAnswer
     ensures { SheetStarted rows.now region.old result region.new }
 {
-    answer_of(started(rows, region))
+    started(rows, region).into()
 }
 
-// One tick of the sheet. Inlined into a caller whose rows come by value, it has the compiler keep a second copy of them on the stack.
-#[inline(never)]
+// One tick of the sheet: all rows emit, then all update; their answers are handed out last.
 pub fn tick(rows: &[Row], tick: Tick, region: &mut [u64], answers: &mut [u64]) -> SheetAnswer
     ensures { SheetTicked tick rows.now region.old answers.old result region.new answers.new }
 {
-    answer_of(ticked(rows, tick, region, answers))
+    ticked(rows, tick, region, answers).into()
 }

@@ -10,7 +10,8 @@ pub struct Row {
     pub third: u64,
 }
 
-// The refusal number, the row at fault for 2, 6 and 7, and whether any row warned.
+// The refusal number, the row at fault for 2, 6 and 7, and whether any row warned. No `Result`: document 01 answers all three, C gets
+// them as they are (`SheetWords`), and `SheetStarted` and `SheetTicked` speak of them.
 #[derive(Clone, Copy)]
 pub struct SheetAnswer {
     pub refusal: u64,

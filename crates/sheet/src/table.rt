@@ -20,7 +20,7 @@ pub struct Table {
 
 impl Table {
     // The rows that it shows, lent.
-    fn shown(&self) -> &[Row]
+    pub fn shown(&self) -> &[Row]
         ensures { result.now ≡ rows_of self.now }
     {
         &self.rows[..self.count.min(TABLE_ROWS)]

@@ -5,7 +5,7 @@ ghost use Rattle.sheet.specs.Walk.{Turn, carried, survey_turn, start_turn, emitt
 
 use crate::row::Row;
 use crate::seen::{INPUT_WORDS, MOST_ROWS, ROW_ANSWERS, Seen};
-use crate::walk::{Walk, past};
+use crate::walk::Walk;
 use blocks::{answer_words, state_length};
 
 // Columns below this name the input words; from here on they name the answer words, so many for each row.
@@ -13,7 +13,8 @@ const INPUT_COLUMNS: u64 = INPUT_WORDS as u64;
 
 const ROW_COLUMNS: u64 = ROW_ANSWERS as u64;
 
-// What a walk does on each row: the function on all that the walk carries, and the row's turn, which is that function.
+// What a walk does on each row: the function on all that the walk carries, and the row's turn, which is that function. Region and words
+// are lent each by itself: of a struct that holds the lent region no contract says what the region ends as.
 pub(crate) trait Pass {
     ghost turned: { Turn };
 
@@ -61,7 +62,7 @@ impl Pass for Survey {
         if own.refusal != 0 {
             return walk.noted(own.refusal, i);
         }
-        let Some(end) = past(walk.at, own.length, region.len()) else {
+        let Some(end) = walk.past(own.length, region.len()) else {
             return walk.noted(3, 0);
         };
         seen.put_end(i, end);
@@ -85,7 +86,7 @@ impl Pass for Start {
         _seen: &mut Seen,
     ) -> Walk {
         let own = state_length(row.block);
-        let Some(end) = past(walk.at, own.length, region.len()) else {
+        let Some(end) = walk.past(own.length, region.len()) else {
             return walk;
         };
         blocks::start(row.block, &mut region[walk.at..end]);
@@ -134,7 +135,7 @@ impl Pass for Update {
         seen: &mut Seen,
     ) -> Walk {
         let end = seen.ends[i];
-        // `get_mut` of a range says nothing of what the region ends as.
+        // No `get_mut` of the range: its contract says nothing of what the region ends as.
         if (end < walk.at) | (region.len() < end) {
             return walk;
         }

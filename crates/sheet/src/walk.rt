@@ -1,13 +1,14 @@
 // A walk over a sheet's rows: what it has found so far, and which fault ends a call between two walks.
 ghost use Rattle.std.specs.Prelude.{◌≡◌, ◌≤◌, Result};
 ghost use Rattle.sheet.specs.Sheet.{most_rows};
-ghost use Rattle.sheet.specs.Walk.{ready, noted, moved_to, warned, past, begun, surveyed, formed, unless_found, answer_of};
+ghost use Rattle.sheet.specs.Walk.{ready, noted, moved_to, warned, past, begun, surveyed, formed, without_fault, answer_of};
 
 use crate::row::SheetAnswer;
 use crate::seen::{MOST_ROWS, ROW_ANSWERS};
 use reals::is_finite;
 
-// A refusal's number, and the row at fault: for 2, 6 and 7 the topmost, else 0.
+// A refusal's number, and the row at fault: for 2, 6 and 7 the topmost, else 0. The number is document 01's, by which faults are ordered
+// (`tick_number`), and what `Answer`, `Length` and `SheetAnswer` carry.
 #[derive(Clone, Copy)]
 pub struct Fault {
     pub number: u64,
@@ -50,6 +51,13 @@ impl Walk {
         }
     }
 
+    // Where the next row's words end, of which there are n, if they lie in a region of so many.
+    pub(crate) fn past(self, n: usize, words: usize) -> Option<usize>
+        ensures { result ≡ past self.at n words }
+    {
+        self.at.checked_add(n).filter(|end| *end <= words)
+    }
+
     // Past a row's words.
     pub(crate) fn moved_to(self, end: usize) -> Walk
         ensures { result ≡ moved_to self end }
@@ -67,9 +75,9 @@ impl Walk {
         }
     }
 
-    // The fault that a walk found ends the call.
-    pub(crate) fn unless_found(self) -> Result<(), Fault>
-        ensures { result ≡ unless_found self }
+    // A fault that was found ends the call.
+    pub(crate) fn without_fault(self) -> Result<(), Fault>
+        ensures { result ≡ without_fault self }
     {
         match self.fault {
             Some(fault) => Err(fault),
@@ -82,7 +90,7 @@ impl Walk {
     pub(crate) fn surveyed(self, words: usize) -> Result<(), Fault>
         ensures { result ≡ surveyed self words }
     {
-        self.unless_found()?;
+        self.without_fault()?;
         if self.at != words {
             return Err(Fault { number: 3, row: 0 });
         }
@@ -112,41 +120,33 @@ impl Walk {
     }
 }
 
-// Where n words from `at` end, if they lie in a region of so many.
-pub(crate) fn past(at: usize, n: usize, words: usize) -> Option<usize>
-    ensures { result ≡ past at n words }
-{
-    at.checked_add(n).filter(|end| *end <= words)
-}
-
 // Test 1 on the number of rows.
 #[tactic(auto, unfolding(crate::specs::Walk::begun))]
 pub(crate) fn begun(rows: usize) -> Result<(), Fault>
     ensures { result ≡ begun rows }
 {
-    if rows == 0 {
-        return Err(Fault { number: 1, row: 0 });
-    }
-    if MOST_ROWS < rows {
+    if rows == 0 || MOST_ROWS < rows {
         return Err(Fault { number: 1, row: 0 });
     }
     Ok(())
 }
 
 // What a call answers by how it ended: with a fault, or with whether any row warned.
-pub(crate) fn answer_of(ended: Result<bool, Fault>) -> SheetAnswer
-    ensures { result ≡ answer_of ended }
-{
-    match ended {
-        Ok(warning) => SheetAnswer {
-            refusal: 0,
-            row: 0,
-            warning,
-        },
-        Err(fault) => SheetAnswer {
-            refusal: fault.number,
-            row: fault.row,
-            warning: false,
-        },
+impl From<Result<bool, Fault>> for SheetAnswer {
+    ghost from_gives = { λ ended answer. answer ≡ answer_of ended };
+
+    fn from(ended: Result<bool, Fault>) -> SheetAnswer {
+        match ended {
+            Ok(warning) => SheetAnswer {
+                refusal: 0,
+                row: 0,
+                warning,
+            },
+            Err(fault) => SheetAnswer {
+                refusal: fault.number,
+                row: fault.row,
+                warning: false,
+            },
+        }
     }
 }

@@ -3,7 +3,9 @@ use Rattle.std.specs.Prelude.{ℕ, ◌≤◌, ◌<◌, ◌≡◌, List, [], ◌+
 use Rattle.std.specs.Io.KnownBytes.{Consumes, Appends, IsAtEnd}
 use Rattle.session.specs.Soak.{soak_of}
 use Rattle.session.specs.Written.{Written}
+use Rattle.soak.specs.declared.turn.Failed.{Failed}
 use Rattle.soak.specs.declared.turn.State.{State}
+use Rattle.soak.specs.declared.turn.Task.TheVariants.{Read}
 use Rattle.soak.specs.declared.turn.Turn.{Turn}
 use Rattle.soak.specs.declared.Stopped.{Stopped}
 use Rattle.soak.specs.declared.Stopped.TheVariants.{TurnFailed, TurnsRanOut}
@@ -32,9 +34,11 @@ pub record Moves (from from' to to' : Option (List ℕ)) (chunk out : List ℕ) 
   pub ends : t.read ≡ 0 → 0 < length chunk → IsAtEnd from'
   pub writes : Appends to to' (take t.wrote out)
 
--- a turn that failed: what was read was taken as in a turn that went well, but how much was written is not known
-abbrev pub Stops : (old new : State) (from from' : Option (List ℕ)) (chunk out : List ℕ) → Turn → Type 0
-Stops old new from from' chunk out t = TurnTaken old new chunk out t × Consumes from from' (take t.read chunk)
+-- a turn that failed is one that went well, but that where it could not write how much was written is not known
+pub record Stops (old new : State) (from from' to to' : Option (List ℕ)) (chunk out : List ℕ) (t : Turn) (failed : Failed) : Type 0 where
+  pub taken : TurnTaken old new chunk out t
+  pub reads : Consumes from from' (take t.read chunk)
+  pub writes : failed.task ≡ Read → Appends to to' (take t.wrote out)
 
 -- what was read and written leads from one state to the other
 pub record Leads (old new : State) (from from' to to' : Option (List ℕ)) : Type 0 where
@@ -51,11 +55,16 @@ pub record Going (turns : ℕ) (s : State) : Type 0 where
   pub written : At input text s
   pub byte_each : turns ≤ length input
 
--- how no more than so many turns may end: by a turn that went well and found no more input, or by one that failed; else all of them were taken
+-- a turn, in which all went well, and nothing was left to read
+pub record Last (t : Turn) : Type 0 where
+  pub nothing : t.read ≡ 0
+
+-- how no more than so many turns may end: by a turn that went well and found no more input, or by one that could not read, before which all
+-- went well, or that could not write; else all of them were taken
 abbrev pub Ends : (turns : ℕ) (old new : State) (from from' to to' : Option (List ℕ)) → Result Turn Stopped → Type 0
-Ends turns old new from from' to to' (Ok t) = (t.read ≡ 0) × Reached new × IsAtEnd from' × Leads old new from from' to to'
-Ends turns old new from from' to to' (Err (TurnFailed failed)) = Reached new
-Ends turns old new from from' to to' (Err TurnsRanOut) = Going turns new
+Ends turns old new from from' to to' (Ok t) = Last t × Reached new × IsAtEnd from' × Leads old new from from' to to'
+Ends turns old new from from' to to' (Err (TurnFailed failed)) = Reached new × (failed.task ≡ Read → Leads old new from from' to to')
+Ends turns old new from from' to to' (Err TurnsRanOut) = Going turns new × Leads old new from from' to to'
 
 -- with the last bytes the text is all that soak writes for the input
 abbrev pub Closes : State → (out : List ℕ) (wrote : ℕ) → Type 0

@@ -1,5 +1,6 @@
 // A turn of the program: a read, what is answered to it, and a write.
-ghost use Rattle.std.specs.Prelude.{◌*◌, ◌≤◌, length, IfOk, OnErr};
+ghost use Rattle.std.specs.Prelude.{◌≡◌, ◌*◌, ◌≤◌, length, IfOk, OnOk, IfErr};
+ghost use Rattle.std.specs.Io.KnownBytes.{Appends};
 ghost use Rattle.session.specs.Put.{Counts};
 ghost use Rattle.soak.specs.declared.turn.Turn.{Turn};
 
@@ -41,6 +42,17 @@ impl fmt::Display for Failed {
 
 impl Error for Failed {}
 
+// Writes all of some bytes.
+fn write_out<W: Write>(output: &mut W, bytes: &[u8]) -> Result<(), Failed>
+    ensures written { OnOk result (Appends (W.contents output.old) (W.contents output.new) bytes.now) }
+    ensures task { IfErr result (λ failed. failed.task ≡ Task.Write) }
+{
+    output.write_all(bytes).map_err(|reason| Failed {
+        task: Task::Write,
+        reason,
+    })
+}
+
 // Where a run stands: the session, the bytes held of a line that has not ended and how many they are, and the block's region.
 #[derive(Drop)]
 pub(crate) struct State {
@@ -51,7 +63,6 @@ pub(crate) struct State {
 }
 
 impl State {
-    ghost use Rattle.std.specs.Prelude.{OnOk};
     ghost use Rattle.soak.specs.Run.{Starts, Reached, TurnTaken, Moves, Stops, Closes, ClosesWith};
 
     // Nothing has been read.
@@ -78,7 +89,7 @@ impl State {
         requires chunk_in_bounds { 32 * length chunk.old ≤ length out.old }
         ensures taken { IfOk result (TurnTaken self.old self.new chunk.new out.new) }
         ensures moves { IfOk result (Moves (R.remaining input.old) (R.remaining input.new) (W.contents output.old) (W.contents output.new) chunk.new out.new) }
-        ensures failed { OnErr result ((t : Turn) × Stops self.old self.new (R.remaining input.old) (R.remaining input.new) chunk.new out.new t) }
+        ensures failed { IfErr result (λ failed. (t : Turn) × Stops self.old self.new (R.remaining input.old) (R.remaining input.new) (W.contents output.old) (W.contents output.new) chunk.new out.new t failed) }
     {
         let read = input.read(chunk).map_err(|reason| Failed {
             task: Task::Read,
@@ -95,10 +106,7 @@ impl State {
         self.session = fed.session;
         self.held = fed.held;
         let wrote = fed.wrote;
-        output.write_all(&out[..wrote]).map_err(|reason| Failed {
-            task: Task::Write,
-            reason,
-        })?;
+        write_out(output, &out[..wrote])?;
         Ok(Turn { read, wrote })
     }
 
@@ -118,9 +126,6 @@ impl State {
     {
         let mut out = [0u8; 128];
         let wrote = self.close(&mut out);
-        output.write_all(&out[..wrote]).map_err(|reason| Failed {
-            task: Task::Write,
-            reason,
-        })
+        write_out(output, &out[..wrote])
     }
 }

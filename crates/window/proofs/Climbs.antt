@@ -58,9 +58,6 @@ module _ (time : ℕ → Float) (a b : ℕ) (last : Float) where
     pub to_go : s ≤ b
     pub rest : climbed time a (b - a) last ≡ climbed time s (b - s) top
 
-  pub left_all : a ≤ b → Left a last
-  left_all h = record { to_go = h; rest = refl }
-
   pub left_none : (s : ℕ) (top : Float) → Left s top → b ≤ s → top ≡ climbed time a (b - a) last
   left_none s top l h =
       let z : b - s ≡ 0 = omega (arith, h) in

@@ -10,6 +10,7 @@ pub struct Point {
 }
 
 // The integral up to the target, on the line through two points.
+#[tactic(auto, using(reals::proofs::Words::zero_is), unfolding(crate::specs::Mean::on_line))]
 pub fn interpolate(prev: Point, next: Point, target: f64) -> f64
     ensures { result ≡ on_line prev next target }
 {
@@ -25,6 +26,7 @@ pub fn interpolate(prev: Point, next: Point, target: f64) -> f64
 const OFF_ZERO: f64 = 1e-3;
 
 // What the integral over the window is divided by: delta, and until the window is full the time since the start.
+#[tactic(auto, using(crate::proofs::Literals::thousandth_is), unfolding(crate::specs::Mean::divisor))]
 pub fn denominator(t_start: f64, delta: f64, t: f64) -> f64
     ensures { result ≡ divisor t_start delta t }
 {

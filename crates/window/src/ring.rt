@@ -29,6 +29,7 @@ pub struct RingGeometry {
 }
 
 // The window: delta, but not below its least.
+#[tactic(auto, using(crate::proofs::Literals::least_is), unfolding(crate::specs::Geometry::delta_eff))]
 fn delta_eff(delta: f64) -> f64
     ensures { result ≡ delta_eff delta }
 {
@@ -36,6 +37,7 @@ fn delta_eff(delta: f64) -> f64
 }
 
 // Two slots a second, within the least and the most. A NaN gives the most.
+#[tactic(auto, using(crate::proofs::Literals::least_slots_is, crate::proofs::Literals::most_slots_is, crate::proofs::Sizes::cut_above, crate::proofs::Sizes::cut_below), unfolding(crate::specs::Geometry::slots_of))]
 fn slots(whole: f64) -> usize
     ensures { result ≡ slots_of whole }
 {
@@ -49,7 +51,7 @@ fn slots(whole: f64) -> usize
 }
 
 // The ring for a window of delta seconds.
-#[tactic(auto, using(crate::proofs::Sizes::slots_within))]
+#[tactic(auto, using(crate::proofs::Sizes::slots_within, crate::proofs::Sizes::slots_exact, crate::proofs::Literals::two_is), unfolding(crate::specs::Geometry::geometry_of, crate::specs::Geometry::slot_count))]
 pub fn geometry(delta: f64) -> RingGeometry
     ensures { result ≡ geometry_of delta }
 {

@@ -13,18 +13,18 @@ pub returns-in_err-words : goal.returns-in_err-words
 returns-in_err-words c =
     let end = c.end_of-end in
     let number = c.in_ok-number in
-    let settings = c.settings_of-settings in
+    let classes = c.classes_of-classes in
     c.from_residual-in_err-words.ensures
     ∙ sym (first_read c.args.line.now end.result c.if-line-gt-LONGEST.false end.ensures.value
-    number.number (sym number.was ∙ c.number_for.ensures) settings.result.now settings.ensures
+    number.number (sym number.was ∙ c.number_for.ensures) classes.result.now classes.ensures
     _ (sym c.in_err-words.was ∙ c.read_values.ensures))
 
 pub returns : goal.returns
 returns c =
     let end = c.end_of-end in
     let number = c.in_ok-number in
-    let settings = c.settings_of-settings in
+    let classes = c.classes_of-classes in
     c.block_of.ensures
     ∙ sym (first_read c.args.line.now end.result c.if-line-gt-LONGEST.false end.ensures.value
-    number.number (sym number.was ∙ c.number_for.ensures) settings.result.now settings.ensures
+    number.number (sym number.was ∙ c.number_for.ensures) classes.result.now classes.ensures
     _ (sym c.in_ok-words.was ∙ c.read_values.ensures))

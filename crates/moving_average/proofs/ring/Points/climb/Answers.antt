@@ -1,15 +1,9 @@
 -- `Points::climb` stops at the first time that is below the one before. Assumes nothing.
 use native.Mathlib.Omega.{arith}
 use lib.Ieee.{of_bits}
-use Rattle.window.proofs.Climbs.{left_none, left_on, left_off}
+use Rattle.window.proofs.Climbs.{left_off}
 use Rattle.moving_average.proofs.ring.Points.climb.Goals as goal
-
-pub loop-s-preserved : goal.loop-s-preserved
-loop-s-preserved c = left_on _ _ _ _ _ _ c.loop-s.invariant (omega arith) c.slot_time-next.ensures c.if-top-next.true
 
 pub returns-else-top-next : goal.returns-else-top-next
 unfolding of_bits
 returns-else-top-next c = left_off _ _ _ _ _ _ c.loop-s.invariant (omega arith) c.slot_time-next.ensures c.if-top-next.false
-
-pub returns : goal.returns
-returns c = left_none _ _ _ _ _ _ c.loop-s.invariant c.loop-s-test.false

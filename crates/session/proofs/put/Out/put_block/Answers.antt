@@ -1,20 +1,6 @@
--- `Out::put_block` meets its contract: each arm writes its block's name. Assumes nothing.
+-- `Out::put_block` meets its contract: its pieces are the line. Assumes nothing.
+use Rattle.session.proofs.Putting.{puts_more}
 use Rattle.session.proofs.put.Out.put_block.Goals as goal
 
-pub returns-in-PidWithReset : goal.returns-in-PidWithReset
-returns-in-PidWithReset c = rw c.in-PidWithReset.is c.put_bytes-in-PidWithReset.ensures
-
-pub returns-in-MovingAverage : goal.returns-in-MovingAverage
-returns-in-MovingAverage c = rw c.in-MovingAverage.is c.put_bytes-in-MovingAverage.ensures
-
-pub returns-in-TimerAccumulating : goal.returns-in-TimerAccumulating
-returns-in-TimerAccumulating c = rw c.in-TimerAccumulating.is c.put_bytes-in-TimerAccumulating.ensures
-
-pub returns-in-TrueFalseHold : goal.returns-in-TrueFalseHold
-returns-in-TrueFalseHold c = rw c.in-TrueFalseHold.is c.put_bytes-in-TrueFalseHold.ensures
-
-pub returns-in-TrueHoldWithReset : goal.returns-in-TrueHoldWithReset
-returns-in-TrueHoldWithReset c = rw c.in-TrueHoldWithReset.is c.put_bytes-in-TrueHoldWithReset.ensures
-
-pub returns-in-LogicalVariablePulse : goal.returns-in-LogicalVariablePulse
-returns-in-LogicalVariablePulse c = rw c.in-LogicalVariablePulse.is c.put_bytes-in-LogicalVariablePulse.ensures
+pub returns : goal.returns
+returns c = rw c.name_of.ensures at (puts_more (puts_more c.put_bytes.ensures c.put_bytes-2.ensures) c.put_byte.ensures)

@@ -4,7 +4,8 @@ use mathlib.Core.Path.{sym}
 use borrow.Author.Rules.{rules}
 use native.Mathlib.Omega.{arith}
 use lib.ListN.{length}
-use Rattle.soak.proofs.Turns.{turn_taken, on_err, none_taken}
+use Rattle.std.proofs.lemmas.Result.{err_from_is_err_and}
+use Rattle.soak.proofs.Turns.{turn_taken, none_taken}
 use Rattle.soak.proofs.turn.State.take_turn.Goals as goal
 
 pub returns-clause-taken : goal.returns-clause-taken
@@ -18,15 +19,23 @@ returns-clause-taken g c =
 
 pub returns-in_err-read-clause-failed : goal.returns-in_err-read-clause-failed
 returns-in_err-read-clause-failed g c =
-    on_err c.from_residual.result
-    (record { read = 0; wrote = 0 }, none_taken c.args.self.now _ _ c.read.result c.read.new.buf c.args.out.now c.read.ensures.bytes (sym c.in_err-read.ensures.variant))
+    let p = err_from_is_err_and c.from_residual.result c.from_residual.ensures.1 in
+    rw p.1
+    (record { read = 0; wrote = 0 }, none_taken c.args.self.now _ _ _ c.read.result c.read.new.buf c.args.out.now p.0 c.read.ensures.bytes (sym c.in_err-read.ensures.variant))
 
-pub returns-in_err-map_err-clause-failed : goal.returns-in_err-map_err-clause-failed
-returns-in_err-map_err-clause-failed g c =
+pub returns-in_err-write_out-clause-failed : goal.returns-in_err-write_out-clause-failed
+returns-in_err-write_out-clause-failed g c =
     let a = c.args.self.now in
     let buf = c.read.new.buf in
     let n = c.in_ok-read.read in
     let fed = c.feed-fed in
     let room : 32 * length buf ≤ length c.args.out.now = omega (arith, c.read.auto.buf, c.requires.chunk_in_bounds) in
-    on_err c.from_residual-in_err-map_err.result
-    (record { read = n; wrote = fed.result.wrote }, (turn_taken a.session a.held a.carry a.region buf n (search rules) room fed.ensures.used fed.ensures.feeds, search rules))
+    let p = err_from_is_err_and c.from_residual-in_err-write_out.result c.from_residual-in_err-write_out.ensures.1 in
+    rw (p.1, p.2) (
+      record { read = n; wrote = fed.result.wrote },
+      record {
+        taken = turn_taken a.session a.held a.carry a.region buf n (search rules) room fed.ensures.used fed.ensures.feeds;
+        reads = search rules;
+        writes = λ read. cc (c.in_err-write_out.ensures.task);
+      },
+    )

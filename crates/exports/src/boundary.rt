@@ -1,10 +1,10 @@
 // What crosses to C and Rust: words alone, since compiled code may give a NaN any bits.
 ghost use Rattle.std.specs.Prelude.{◌≡◌};
-ghost use Rattle.dynamics.specs.Answer.{silent};
+ghost use Rattle.dynamics.specs.Answer.{silent, answer_of, length_read};
 ghost use Rattle.exports.specs.Boundary.{answer_crossed, length_words, no_block, Brings};
 
 use blocks::Tick;
-use dynamics::{Answer, Length, silent};
+use dynamics::{Refusal, Reply};
 use reals::{real_of, word_of, word_of_flag};
 
 // The refusal number of words that name no block.
@@ -28,27 +28,48 @@ pub struct LengthWords {
     pub length: u64,
 }
 
-impl From<Answer> for AnswerWords {
-    ghost from_gives = { λ a w. w ≡ answer_crossed a };
+// A refusal in words: its number and zeros.
+pub fn refused(refusal: u64) -> AnswerWords
+    ensures { result ≡ answer_crossed (silent refusal) }
+{
+    AnswerWords {
+        refusal,
+        real: 0,
+        boolean: 0,
+        warning: 0,
+    }
+}
+
+impl From<Result<Reply, Refusal>> for AnswerWords {
+    ghost from_gives = { λ met w. w ≡ answer_crossed (answer_of met) };
 
     #[tactic(auto, unfolding(crate::specs::Boundary::answer_crossed))]
-    fn from(a: Answer) -> AnswerWords {
-        AnswerWords {
-            refusal: a.refusal,
-            real: word_of(a.real),
-            boolean: word_of_flag(a.boolean),
-            warning: word_of_flag(a.warning),
+    fn from(met: Result<Reply, Refusal>) -> AnswerWords {
+        match met {
+            Ok(reply) => AnswerWords {
+                refusal: 0,
+                real: word_of(reply.real),
+                boolean: word_of_flag(reply.boolean),
+                warning: word_of_flag(reply.warning),
+            },
+            Err(refusal) => refused(refusal.into()),
         }
     }
 }
 
-impl From<Length> for LengthWords {
-    ghost from_gives = { λ l w. w ≡ length_words l };
+impl From<Result<usize, Refusal>> for LengthWords {
+    ghost from_gives = { λ met w. w ≡ length_words (length_read met) };
 
-    fn from(l: Length) -> LengthWords {
-        LengthWords {
-            refusal: l.refusal,
-            length: l.length as u64,
+    fn from(met: Result<usize, Refusal>) -> LengthWords {
+        match met {
+            Ok(length) => LengthWords {
+                refusal: 0,
+                length: length as u64,
+            },
+            Err(refusal) => LengthWords {
+                refusal: refusal.into(),
+                length: 0,
+            },
         }
     }
 }
@@ -57,7 +78,7 @@ impl From<Length> for LengthWords {
 pub fn no_answer() -> AnswerWords
     ensures { result ≡ answer_crossed (silent no_block) }
 {
-    silent(NO_BLOCK).into()
+    refused(NO_BLOCK)
 }
 
 // What a tick brings to one block.

@@ -9,6 +9,7 @@ ghost use Rattle.exports.specs.Calls.{length_said, start_number, start_left, sou
 use crate::boundary::{AnswerWords, LengthWords, NO_BLOCK, no_answer, tick_of};
 use crate::states::{StateWords, decoded_words, no_state};
 use blocks::{block_of, decode, emit, sound, start, state_length, tick, update};
+use dynamics::number_of;
 use reals::word_of_flag;
 use runs::run;
 
@@ -34,7 +35,7 @@ pub fn oven_start(block: u64, settings: &[u64], region: &mut [u64]) -> u64
     let Some(b) = block_of(block, settings) else {
         return NO_BLOCK;
     };
-    start(b, region)
+    number_of(start(b, region))
 }
 
 // 1 if the region decodes, else 0.

@@ -7,8 +7,7 @@ ghost use Rattle.blocks.specs.Named.{named_by};
 ghost use Rattle.exports.specs.Boundary.{three_inputs};
 ghost use Rattle.exports.specs.Calls.{start_number, start_left, update_left, tick_said, RunsBy};
 
-use dynamics::silent;
-use exports::boundary::AnswerWords;
+use exports::boundary::{AnswerWords, refused};
 use runs::WORDS_PER_ANSWER;
 
 // Writes the words of a fresh block. The refusal number; 0 is accepted.
@@ -36,7 +35,7 @@ pub extern "C" fn oven_tick(
     let mut answers = [0u64; WORDS_PER_ANSWER];
     let refusal = exports::calls::oven_run(block, settings, &ticks, region, &mut answers);
     if refusal != 0 {
-        return silent(refusal).into();
+        return refused(refusal);
     }
     AnswerWords {
         refusal: answers[0],

@@ -1,5 +1,6 @@
 // What a walk does on one row, on the row's own stretch of the region.
 ghost use Rattle.std.specs.Prelude.{◌≡◌, ◌<◌};
+ghost use Rattle.dynamics.specs.Answer.{answer_of};
 ghost use Rattle.sheet.specs.Sheet.{most_rows, names, in_reach};
 ghost use Rattle.sheet.specs.Walk.{Turn, carried, survey_turn, start_turn, emitted_row, updated_row, Left};
 
@@ -7,6 +8,7 @@ use crate::row::Row;
 use crate::seen::{INPUT_WORDS, MOST_ROWS, ROW_ANSWERS, Seen};
 use crate::walk::Walk;
 use blocks::{answer_words, state_length};
+use dynamics::{Refusal, Reply, number_of};
 
 // Columns below this name the input words; from here on they name the answer words, so many for each row.
 const INPUT_COLUMNS: u64 = INPUT_WORDS as u64;
@@ -40,6 +42,23 @@ fn in_reach(i: usize, row: Row) -> bool
     names(i, row.first.max(row.second).max(row.third))
 }
 
+// The number of what a block answers: 0 where it accepts.
+fn number_in(met: Result<Reply, Refusal>) -> u64
+    ensures { result ≡ (answer_of met).refusal }
+{
+    number_of(met)
+}
+
+// Whether it warns.
+fn warning_in(met: Result<Reply, Refusal>) -> bool
+    ensures { result ≡ (answer_of met).warning }
+{
+    match met {
+        Ok(reply) => reply.warning,
+        Err(_) => false,
+    }
+}
+
 // Tests 1 and 2, and that the row's words lie in the region: test 3, but for words left over. Where they end is noted.
 pub(crate) struct Survey;
 
@@ -59,10 +78,10 @@ impl Pass for Survey {
             return walk.noted(1, 0);
         }
         let own = state_length(row.block);
-        if own.refusal != 0 {
-            return walk.noted(own.refusal, i);
-        }
-        let Some(end) = walk.past(own.length, region.len()) else {
+        let Ok(length) = own else {
+            return walk.noted(number_of(own), i);
+        };
+        let Some(end) = walk.past(length, region.len()) else {
             return walk.noted(3, 0);
         };
         seen.put_end(i, end);
@@ -85,11 +104,11 @@ impl Pass for Start {
         region: &mut [u64],
         _seen: &mut Seen,
     ) -> Walk {
-        let own = state_length(row.block);
-        let Some(end) = walk.past(own.length, region.len()) else {
+        let length = state_length(row.block).unwrap_or(0);
+        let Some(end) = walk.past(length, region.len()) else {
             return walk;
         };
-        blocks::start(row.block, &mut region[walk.at..end]);
+        let _ = blocks::start(row.block, &mut region[walk.at..end]);
         walk.moved_to(end)
     }
 }
@@ -113,9 +132,9 @@ impl Pass for Emit {
         let Some(own) = region.get(walk.at..end) else {
             return walk;
         };
-        let answer = blocks::emit(row.block, seen.row_tick(time, row), own);
-        seen.put_answer(i, answer_words(row.block, answer));
-        walk.noted(answer.refusal, i).moved_to(end)
+        let met = blocks::emit(row.block, seen.row_tick(time, row), own);
+        seen.put_answer(i, answer_words(row.block, met));
+        walk.noted(number_in(met), i).moved_to(end)
     }
 }
 
@@ -140,7 +159,7 @@ impl Pass for Update {
             return walk;
         }
         let tick = seen.row_tick(time, row);
-        let answer = blocks::update(row.block, tick, &mut region[walk.at..end]);
-        walk.warned(answer.warning).moved_to(end)
+        let met = blocks::update(row.block, tick, &mut region[walk.at..end]);
+        walk.warned(warning_in(met)).moved_to(end)
     }
 }

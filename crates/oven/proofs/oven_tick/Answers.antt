@@ -7,7 +7,7 @@ use Rattle.oven.proofs.oven_tick.Goals as goal
 pub returns-then-refusal-ne0 : goal.returns-then-refusal-ne0
 returns-then-refusal-ne0 c =
     let ran = c.oven_run-refusal in
-    no_tick _ _ _ _ _ _ refl _ ran.ensures c.if-refusal-ne0.true (c.into.ensures ∙ ap answer_crossed c.silent.ensures)
+    no_tick _ _ _ _ _ _ refl _ ran.ensures c.if-refusal-ne0.true c.refused.ensures
 
 pub returns : goal.returns
 returns c = one_tick _ _ _ _ _ _ refl _ c.oven_run-refusal.ensures c.if-refusal-ne0.false

@@ -30,8 +30,8 @@ fn walk_rows<P: Pass>(rows: &[Row], time: f64, region: &mut [u64], seen: &mut Se
     walk
 }
 
-#[tactic(auto, using(crate::proofs::Results::few_of))]
 // A start: a survey of the rows, then their fresh words. It never warns.
+#[tactic(auto, using(crate::proofs::Results::few_of))]
 fn started(rows: &[Row], region: &mut [u64]) -> Result<bool, Fault>
     ensures { SheetStarted rows.now region.old (answer_of result) region.new }
 {
@@ -43,8 +43,8 @@ fn started(rows: &[Row], region: &mut [u64]) -> Result<bool, Fault>
     Ok(started.warning)
 }
 
-#[tactic(auto, using(crate::proofs::Results::few_of, crate::proofs::Results::space_of))]
 // A tick: a survey, then all rows emit, then all update; their answers are handed out last.
+#[tactic(auto, using(crate::proofs::Results::few_of, crate::proofs::Results::space_of))]
 fn ticked(rows: &[Row], tick: Tick, region: &mut [u64], answers: &mut [u64]) -> Result<bool, Fault>
     ensures { SheetTicked tick rows.now region.old answers.old (answer_of result) region.new answers.new }
 {

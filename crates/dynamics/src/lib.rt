@@ -1,4 +1,4 @@
-// What every block shares: the previous time, the small steps, what a call brings and answers, a region's words.
+// What every block shares: the previous time, the small steps, what a call brings and answers, a region's words, and the calls.
 #![tactic(auto)]
 
 pub mod call;

@@ -1,4 +1,4 @@
--- A region opened: the tests in the table's order, and what an accepted call knows. Assumes nothing.
+-- A region as the calls find it: a fresh one, and one that decodes, in which its ring stands. Assumes nothing.
 use mathlib.Core.Path.{◌≡◌, refl, sym, ap, ◌∙◌}
 use mathlib.Core.Bool.{Bool, true, false, ◌&&◌}
 use mathlib.Core.List.{List, []}

@@ -1,8 +1,9 @@
 // The answers that a line stores, and whether an answer is one of them.
 ghost use Rattle.std.specs.Prelude.{◌≡◌, ◌+◌, ◌≤◌, length};
+ghost use Rattle.dynamics.specs.Answer.{answer_of};
 ghost use Rattle.replay.specs.Answer.{answers_with, stored_at, meets_emit, meets_update, meets_tick};
 
-use dynamics::{Answer, word_at};
+use dynamics::{Refusal, Reply, number_of, word_at};
 use reals::{word_of, word_of_flag};
 
 // How many words they are.
@@ -33,33 +34,44 @@ pub(crate) fn stored_at(words: &[u64], at: usize) -> Stored
     }
 }
 
-// Whether an answer has these words.
+// Whether an answer has these words; a refusal hands out zeros.
 #[tactic(auto, unfolding(crate::specs::Answer::answers_with))]
-fn answers_with(a: Answer, refusal: u64, real: u64, boolean: u64, warning: u64) -> bool
-    ensures { result ≡ answers_with a refusal real boolean warning }
+fn answers_with(
+    met: Result<Reply, Refusal>,
+    refusal: u64,
+    real: u64,
+    boolean: u64,
+    warning: u64,
+) -> bool
+    ensures { result ≡ answers_with (answer_of met) refusal real boolean warning }
 {
-    let numbers = (a.refusal == refusal) & (word_of(a.real) == real);
-    let flags = (word_of_flag(a.boolean) == boolean) & (word_of_flag(a.warning) == warning);
+    let reply = met.unwrap_or(Reply {
+        real: 0.0,
+        boolean: false,
+        warning: false,
+    });
+    let numbers = (number_of(met) == refusal) & (word_of(reply.real) == real);
+    let flags = (word_of_flag(reply.boolean) == boolean) & (word_of_flag(reply.warning) == warning);
     numbers & flags
 }
 
 // An emit hands out no warning.
-pub fn is_emitted(a: Answer, s: Stored) -> bool
-    ensures { result ≡ meets_emit a s }
+pub fn is_emitted(met: Result<Reply, Refusal>, s: Stored) -> bool
+    ensures { result ≡ meets_emit (answer_of met) s }
 {
-    answers_with(a, s.refusal, s.real, s.boolean, 0)
+    answers_with(met, s.refusal, s.real, s.boolean, 0)
 }
 
 // An update hands out its warning alone.
-pub fn is_updated(a: Answer, s: Stored) -> bool
-    ensures { result ≡ meets_update a s }
+pub fn is_updated(met: Result<Reply, Refusal>, s: Stored) -> bool
+    ensures { result ≡ meets_update (answer_of met) s }
 {
-    answers_with(a, s.update_refusal, 0, 0, s.warning)
+    answers_with(met, s.update_refusal, 0, 0, s.warning)
 }
 
 // A whole tick hands out both.
-pub fn is_ticked(a: Answer, s: Stored) -> bool
-    ensures { result ≡ meets_tick a s }
+pub fn is_ticked(met: Result<Reply, Refusal>, s: Stored) -> bool
+    ensures { result ≡ meets_tick (answer_of met) s }
 {
-    answers_with(a, s.refusal, s.real, s.boolean, s.warning)
+    answers_with(met, s.refusal, s.real, s.boolean, s.warning)
 }

@@ -68,8 +68,8 @@ impl Call {
     fn updates(self, region: &mut [u64], stored: Stored, expected: &[u64]) -> bool
         ensures { result ≡ update_agrees self.block self.tick region.old stored expected.now }
     {
-        let answer = blocks::update(self.block, self.tick, region);
-        is_updated(answer, stored) & (*region == *expected)
+        let met = blocks::update(self.block, self.tick, region);
+        is_updated(met, stored) & (*region == *expected)
     }
 
     // Whether a whole tick does.
@@ -77,8 +77,8 @@ impl Call {
     fn ticks(self, region: &mut [u64], stored: Stored, expected: &[u64]) -> bool
         ensures { result ≡ tick_agrees self.block self.tick region.old stored expected.now }
     {
-        let answer = blocks::tick(self.block, self.tick, region);
-        is_ticked(answer, stored) & (*region == *expected)
+        let met = blocks::tick(self.block, self.tick, region);
+        is_ticked(met, stored) & (*region == *expected)
     }
 
     // Whether a whole tick does on the words from before the call, put in again.

@@ -4,7 +4,7 @@ ghost use Rattle.lines.specs.Forms.{form_of};
 
 use crate::put::Out;
 use blocks::Block;
-use dynamics::Answer;
+use dynamics::Reply;
 use reals::word_of;
 use text::{flag_digit, word_text};
 
@@ -25,6 +25,7 @@ fn name_of(block: Block) -> &'static [u8]
 
 impl Out<'_> {
     ghost use Rattle.reals.specs.Words.{word_of};
+    ghost use Rattle.dynamics.specs.Answer.{said};
     ghost use Rattle.text.specs.Items.{flag_text};
     ghost use Rattle.text.specs.Word.{word_text};
     ghost use Rattle.lines.specs.Forms.{form_of};
@@ -77,32 +78,32 @@ impl Out<'_> {
 
     // The outputs that the block has.
     #[tactic(auto, using(text::proofs::Lengths::length_word), unfolding(crate::specs::Answers::outputs_text, crate::specs::Answers::output_text))]
-    fn put_outputs(&mut self, block: Block, answer: Answer)
+    fn put_outputs(&mut self, block: Block, reply: Reply)
         requires { HasRoom self.old 18 }
-        ensures { Puts self.old (outputs_text (form_of block).outputs answer) self.new }
+        ensures { Puts self.old (outputs_text (form_of block).outputs (said reply)) self.new }
     {
         match block {
             Block::Pid(_) | Block::PidWithReset(_) | Block::MovingAverage { .. } => {
-                self.put_real(answer.real);
+                self.put_real(reply.real);
             }
             Block::TimerAccumulating { .. } => {
-                self.put_real(answer.real);
+                self.put_real(reply.real);
                 self.put_byte(b' ');
-                self.put_boolean(answer.boolean);
+                self.put_boolean(reply.boolean);
             }
             Block::TrueDelay { .. }
             | Block::TrueFalseHold { .. }
             | Block::TrueHoldWithReset { .. }
-            | Block::LogicalVariablePulse { .. } => self.put_boolean(answer.boolean),
+            | Block::LogicalVariablePulse { .. } => self.put_boolean(reply.boolean),
         }
     }
 
     // An accepted tick.
-    pub(crate) fn put_answer(&mut self, block: Block, answer: Answer)
+    pub(crate) fn put_answer(&mut self, block: Block, reply: Reply)
         requires { HasRoom self.old 32 }
-        ensures { Puts self.old (answer_text block answer) self.new }
+        ensures { Puts self.old (answer_text block (said reply)) self.new }
     {
-        self.put_outputs(block, answer);
+        self.put_outputs(block, reply);
         self.put_byte(b'\n');
     }
 

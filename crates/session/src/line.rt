@@ -27,7 +27,7 @@ fn start_block(block: Block, n: usize, region: &mut [u64], out: &mut Out<'_>) ->
         out.put_bad();
         return Session::Over;
     }
-    blocks::start(block, &mut region[..n]);
+    let _ = blocks::start(block, &mut region[..n]);
     out.put_block(block);
     Session::Running(Run {
         block,
@@ -46,12 +46,13 @@ fn open_with(named: Option<Block>, region: &mut [u64], out: &mut Out<'_>) -> Ses
         out.put_bad();
         return Session::Over;
     };
-    let length = blocks::state_length(block);
-    if length.refusal != 0 {
-        out.put_refusal(length.refusal);
-        return Session::Over;
+    match blocks::state_length(block) {
+        Ok(n) => start_block(block, n, region, out),
+        Err(refusal) => {
+            out.put_refusal(u64::from(refusal));
+            Session::Over
+        }
     }
-    start_block(block, length.length, region, out)
 }
 
 // Runs a tick of the block in the first words of the region.
@@ -60,23 +61,26 @@ fn tick_in(run: Run, tick: Tick, region: &mut [u64], out: &mut Out<'_>) -> Sessi
     requires { HasRoom out.old 32 }
     ensures { Goes (tick_goes region.old run tick) result region.new out.old out.new }
 {
-    let n = blocks::state_length(run.block).length;
+    let n = blocks::state_length(run.block).unwrap_or(0);
     if region.len() < n {
         return Session::Over;
     }
-    let answer = blocks::tick(run.block, tick, &mut region[..n]);
-    if answer.refusal != 0 {
-        out.put_refusal(answer.refusal);
-        return Session::Running(Run {
-            refused: one_more(run.refused),
-            ..run
-        });
+    match blocks::tick(run.block, tick, &mut region[..n]) {
+        Ok(reply) => {
+            out.put_answer(run.block, reply);
+            Session::Running(Run {
+                accepted: one_more(run.accepted),
+                ..run
+            })
+        }
+        Err(refusal) => {
+            out.put_refusal(u64::from(refusal));
+            Session::Running(Run {
+                refused: one_more(run.refused),
+                ..run
+            })
+        }
     }
-    out.put_answer(run.block, answer);
-    Session::Running(Run {
-        accepted: one_more(run.accepted),
-        ..run
-    })
 }
 
 // Answers a later line.

@@ -5,7 +5,7 @@ ghost use Rattle.dynamics.specs.Previous.{Previous};
 ghost use Rattle.dynamics.specs.Region.{Gives};
 ghost use Rattle.dynamics.specs.Machine.{Machine, Told, read_as, length_answer, start_refusal, decode_refusal, decode_answer, tick_refusal, started_words, is_sound, emit_answer, update_answer, updated_words, tick_answer};
 
-use crate::call::{Reply, Inputs};
+use crate::call::{Inputs, Reply};
 use crate::previous::Previous;
 use crate::refusal::{Refusal, test_form, test_time};
 

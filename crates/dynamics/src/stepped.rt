@@ -5,7 +5,7 @@ ghost use Rattle.dynamics.specs.Previous.{sound_previous};
 ghost use Rattle.dynamics.specs.Region.{stored};
 ghost use Rattle.dynamics.specs.Stepped.{Stepped, stepped_machine, stepped_told};
 
-use crate::call::{Reply, Inputs, warning_answer};
+use crate::call::{Inputs, Reply, warning_answer};
 use crate::control::ControlBlock;
 use crate::previous::{Previous, previous_sound};
 

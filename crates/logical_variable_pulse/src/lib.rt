@@ -6,10 +6,13 @@ mod step;
 
 ghost use Rattle.logical_variable_pulse.specs.LogicalVariablePulse.{block, counted, zeros};
 
-use dynamics::{Inputs, Previous, Step, SteppedBlock, boolean_answer, flag_at, previous_at, real_at, store, word_of_previous};
+use dynamics::{
+    Inputs, Previous, Step, SteppedBlock, boolean_answer, flag_at, previous_at, real_at, store,
+    word_of_previous,
+};
 use reals::{is_finite, word_of, word_of_flag};
 pub use state::{STATE_LEN, State};
-use state::{SAMPLED_U_WORD, T0_WORD, HELD_WORD, TIMER_WORD, PREV_T_WORD};
+use state::{HELD_WORD, PREV_T_WORD, SAMPLED_U_WORD, T0_WORD, TIMER_WORD};
 use step::advance;
 
 // How long a period lasts, the change of the input that begins a cycle anew, and how long each value of the output lasts at least.

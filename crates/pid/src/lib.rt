@@ -6,8 +6,8 @@ mod state;
 ghost use Rattle.std.specs.Prelude.{◌≡◌};
 ghost use Rattle.pid.specs.Pid.{block, counted, heard, zeros};
 
-pub use controller::{ControllerConfig, ControllerType, State};
 use controller::Heard;
+pub use controller::{ControllerConfig, ControllerType, State};
 use dynamics::{Inputs, Previous, Step, SteppedBlock, real_answer};
 use reals::{flag_of, real_of};
 use state::{size, state_of, write};

@@ -6,10 +6,13 @@ mod step;
 
 ghost use Rattle.timer_accumulating.specs.TimerAccumulating.{block, counted, zeros};
 
-use dynamics::{Inputs, Previous, Step, SteppedBlock, both_answer, flag_at, previous_at, real_at, store, word_of_previous};
+use dynamics::{
+    Inputs, Previous, Step, SteppedBlock, both_answer, flag_at, previous_at, real_at, store,
+    word_of_previous,
+};
 use reals::{is_finite, word_of, word_of_flag};
 pub use state::{STATE_LEN, State};
-use state::{ACC_WORD, PREV_T_WORD, PREV_U_WORD, PREV_RESET_WORD, PASSED_WORD};
+use state::{ACC_WORD, PASSED_WORD, PREV_RESET_WORD, PREV_T_WORD, PREV_U_WORD};
 use step::advance;
 
 // It passes when the total reaches t.

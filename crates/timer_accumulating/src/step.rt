@@ -22,7 +22,7 @@ fn y_now(s: State, time: f64, input: bool, wipes: bool) -> f64
         return 0.0;
     }
     if gap_counts(s, input) {
-            return s.total + tick_dt(time, s.previous);
+        return s.total + tick_dt(time, s.previous);
     }
     s.total
 }

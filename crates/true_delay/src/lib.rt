@@ -6,10 +6,13 @@ mod step;
 
 ghost use Rattle.true_delay.specs.TrueDelay.{block, counted, zeros};
 
-use dynamics::{Inputs, Previous, Step, SteppedBlock, boolean_answer, flag_at, previous_at, real_at, store, word_of_previous};
+use dynamics::{
+    Inputs, Previous, Step, SteppedBlock, boolean_answer, flag_at, previous_at, real_at, store,
+    word_of_previous,
+};
 use reals::{is_finite, word_of, word_of_flag};
 pub use state::{STATE_LEN, State};
-use state::{TIMER_WORD, PREV_T_WORD, PREV_U_WORD, HELD_WORD};
+use state::{HELD_WORD, PREV_T_WORD, PREV_U_WORD, TIMER_WORD};
 use step::advance;
 
 // How long a true input waits, and whether one on the first tick waits too.

@@ -1,5 +1,5 @@
-// What soak does with a line. Region and `out` are two arguments: with both in one struct the check does not cover `finish`, where the
-// reference in it would stand at two lifetimes, and does not know what a block leaves in a part of a field's words.
+// What soak does with a line. Region and `out` are two arguments: with both in one struct, tried, it is not known what the array of
+// `feed` holds that was lent to it as a slice, nor what a block leaves in a part of a field's words.
 ghost use Rattle.std.specs.Prelude.{◌≡◌};
 ghost use Rattle.session.specs.Put.{HasRoom};
 ghost use Rattle.session.specs.Stream.{one_more, first_starts, first_names, tick_goes, goes_on, line_in, Goes};

@@ -20,25 +20,9 @@ all_passed true true true true true true true e = (refl, refl, refl, refl, refl,
 
 -- ---- the number of a call on one block, by the first test that fails
 module _ (settings length time state order : Bool) where
-  pub refused_2 : settings ≡ false → 2 ≡ refusal_of skipped settings length skipped time state order
-  unfolding refusal_of
-  refused_2 s = simp s
-
-  pub refused_3 : settings ≡ true → length ≡ false → 3 ≡ refusal_of skipped settings length skipped time state order
-  unfolding refusal_of
-  refused_3 s l = simp (s, l)
-
-  pub refused_5 : settings ≡ true → length ≡ true → time ≡ false → 5 ≡ refusal_of skipped settings length skipped time state order
-  unfolding refusal_of
-  refused_5 s l t = simp (s, l, t)
-
   pub refused_6 : settings ≡ true → length ≡ true → time ≡ true → state ≡ false → 6 ≡ refusal_of skipped settings length skipped time state order
   unfolding refusal_of
   refused_6 s l t d = simp (s, l, t, d)
-
-  pub refused_7 : settings ≡ true → length ≡ true → time ≡ true → state ≡ true → order ≡ false → 7 ≡ refusal_of skipped settings length skipped time state order
-  unfolding refusal_of
-  refused_7 s l t d o = simp (s, l, t, d, o)
 
   pub refused_none : settings ≡ true → length ≡ true → time ≡ true → state ≡ true → order ≡ true → 0 ≡ refusal_of skipped settings length skipped time state order
   unfolding refusal_of

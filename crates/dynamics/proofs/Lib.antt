@@ -1,6 +1,5 @@
 -- Laws of times, refusals, calls, sound regions and histories, for the proofs here and for every crate above.
 pub mod Times
-pub mod Copies
 pub mod Accepted
 pub mod Calls
 pub mod Sounds

@@ -12,9 +12,6 @@ use Rattle.blocks.specs.declared.decoded.State.{State}
 use Rattle.exports.specs.Boundary.{answer_crossed, state_words, decoded_words, no_state}
 use Rattle.exports.specs.declared.boundary.AnswerWords.{AnswerWords}
 
-pub in_words : {a r : Answer} {ws left : List ℕ} {x : AnswerWords} → Gives a ws r left → x ≡ answer_crossed r → Gives (answer_crossed a) ws x left
-in_words g x = record { answers = x ∙ ap answer_crossed g.answers; leaves = g.leaves }
-
 -- what decoding brings has its number, and the state or zeros
 pub state_in_words : {n : ℕ} {s : State} (d : Result State Refusal) → Brings n s d → decoded_words d ≡ accept n (state_words s) (no_state n)
 state_in_words (Ok t) b = ap state_words b.value ∙ accepted _ _ _ b.number

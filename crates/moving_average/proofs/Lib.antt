@@ -9,3 +9,4 @@ pub mod Steps
 pub mod Rules
 pub mod Sounds
 pub mod Disorder
+pub mod OneResult

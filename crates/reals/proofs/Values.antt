@@ -64,8 +64,3 @@ unique f (inf _) y s a c C p q v w = elim v [ ]
 unique f (fin t m e) nan s a c C p q v w = elim w [ ]
 unique f (fin t m e) (inf _) s a c C p q v w = elim w [ ]
 
--- whether a real fits does not turn on its sign
-pub fits_sign : (f : Format) (s t : Bool) (m : ℕ) (e : ℤ) → T (fits f (fin s m e)) → T (fits f (fin t m e))
-unfolding fits
-fits_sign f s t zero e h = h
-fits_sign f s t (suc m) e h = h

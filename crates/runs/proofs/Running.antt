@@ -54,10 +54,6 @@ pub record Running (M : Machine) (ticks region₀ answers₀ region answers : Li
   pub said : sets answers (words_per_answer * n) (ran_answers M region (asked (drop (words_per_tick * n) ticks))) ≡ sets answers₀ 0 (ran_answers M region₀ (asked ticks))
 
 module _ (M : Machine) (ticks region₀ answers₀ : List ℕ) where
-  -- at the start
-  pub running_none : answer_each ticks answers₀ ≡ true → Running M ticks region₀ answers₀ region₀ answers₀ 0
-  running_none each = record { room = eqb-true _ _ each; same_region = refl; same_answers = refl; words = refl; said = refl }
-
   -- the words of one answer, and then those of the rest
   said_more : (answers region : List ℕ) (n : ℕ) (k : Asked) (rest : List Asked)
       → sets (sets answers (words_per_answer * n) (answer_in_words (tick_answer M k.time k.inputs region))) (words_per_answer * (n + 1))

@@ -26,16 +26,6 @@ pub up_to_end : (x : ℕ) (s : List ℕ) (i : ℕ) → length s ≤ i → up_to 
 unfolding up_to
 up_to_end x s i h = rw (drop_of_length-le s h)
 
--- the first x of s stands within s
-pub up_to_within : (x : ℕ) (s : List ℕ) → up_to x s ≤ length s
-unfolding up_to
-up_to_within x [] = omega arith
-up_to_within x (b ∷ s) = shorter (eqb b x) (up_to_within x s)
-  where
-    shorter : (t : Bool) → up_to x s ≤ length s → cond t 0 (suc (up_to x s)) ≤ suc (length s)
-    shorter true h = omega arith
-    shorter false h = omega arith
-
 -- ---- the first stretch, and the others
 
 -- the stretches behind the first n bytes of s and the x after them

@@ -63,4 +63,3 @@ unique f nan y s a c C p q v w = elim v [ ]
 unique f (inf _) y s a c C p q v w = elim v [ ]
 unique f (fin t m e) nan s a c C p q v w = elim w [ ]
 unique f (fin t m e) (inf _) s a c C p q v w = elim w [ ]
-

@@ -10,5 +10,6 @@ pub mod OneResult
 pub mod Putting
 pub mod Short
 pub mod Sizes
+pub mod Starting
 pub mod Whole
 pub mod Written

@@ -1,6 +1,9 @@
 // What soak does with a line. Region and `out` are two arguments: with both in one struct, tried, it is not known what the array of
 // `feed` holds that was lent to it as a slice, nor what a block leaves in a part of a field's words.
-ghost use Rattle.std.specs.Prelude.{◌≡◌};
+ghost use Rattle.std.specs.Prelude.{◌≡◌, Ok};
+ghost use Rattle.dynamics.specs.Answer.{length_read};
+ghost use Rattle.dynamics.specs.Machine.{length_answer};
+ghost use Rattle.blocks.specs.Block.{machine_of};
 ghost use Rattle.session.specs.Put.{HasRoom};
 ghost use Rattle.session.specs.Stream.{one_more, first_starts, first_names, tick_goes, goes_on, line_in, Goes};
 
@@ -17,17 +20,18 @@ fn one_more(n: u64) -> u64
     n.saturating_add(1)
 }
 
-// Starts a block in the first n words of the region.
+// Starts a block in the first n words of the region, as many as its state has.
 #[tactic(auto, unfolding(crate::specs::Stream::first_starts))]
 fn start_block(block: Block, n: usize, region: &mut [u64], out: &mut Out<'_>) -> Session
-    requires { HasRoom out.old 32 }
+    requires room { HasRoom out.old 32 }
+    requires length { length_read (Ok n) ≡ length_answer (machine_of block) }
     ensures { Goes (first_starts region.old block n) result region.new out.old out.new }
 {
     if region.len() < n {
         out.put_bad();
         return Session::Over;
     }
-    let _ = blocks::start(block, &mut region[..n]);
+    blocks::start(block, &mut region[..n]).unwrap();
     out.put_block(block);
     Session::Running(Run {
         block,

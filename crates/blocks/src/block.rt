@@ -44,6 +44,7 @@ pub struct Tick {
 }
 
 // What a block reads of a tick: its first three words.
+#[tactic(auto, unfolding(crate::specs::Block::inputs_of))]
 pub(crate) fn inputs_of(tick: Tick) -> Inputs
     ensures { result ≡ inputs_of tick }
 {

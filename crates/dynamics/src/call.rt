@@ -44,6 +44,7 @@ pub fn real_answer(real: f64) -> Reply
 }
 
 // An accepted emit of a boolean output.
+#[tactic(auto, using(reals::proofs::Words::zero_is))]
 pub fn boolean_answer(boolean: bool) -> Reply
     ensures { said result ≡ emitted (boolean_output boolean) }
 {
@@ -51,6 +52,7 @@ pub fn boolean_answer(boolean: bool) -> Reply
 }
 
 // An accepted update: it hands out its warning alone.
+#[tactic(auto, using(reals::proofs::Words::zero_is))]
 pub fn warning_answer(warning: bool) -> Reply
     ensures { said result ≡ updated warning }
 {

@@ -10,6 +10,7 @@ pub struct Timed {
 }
 
 // x with slope * dt added on.
+#[tactic(auto, unfolding(crate::specs::Leaves::accumulated))]
 pub fn forward_euler_accumulate(x: f64, slope: f64, dt: f64) -> f64
     ensures { result ≡ accumulated x slope dt }
 {
@@ -17,6 +18,7 @@ pub fn forward_euler_accumulate(x: f64, slope: f64, dt: f64) -> f64
 }
 
 // One step of the one-pole filter toward the input.
+#[tactic(auto, unfolding(crate::specs::Leaves::filtered))]
 pub fn first_order_filter_implicit(x: f64, input: f64, time_const: f64, dt: f64) -> f64
     ensures { result ≡ filtered x input time_const dt }
 {
@@ -25,6 +27,7 @@ pub fn first_order_filter_implicit(x: f64, input: f64, time_const: f64, dt: f64)
 }
 
 // x if it is above zero, else 0.0.
+#[tactic(auto, unfolding(crate::specs::Leaves::positive_duration), using(reals::proofs::Words::zero_is))]
 pub fn positive_duration(x: f64) -> f64
     ensures { result ≡ positive_duration x }
 {
@@ -32,6 +35,7 @@ pub fn positive_duration(x: f64) -> f64
 }
 
 // x, and where x is smaller, the least that is allowed.
+#[tactic(auto, unfolding(crate::specs::Leaves::raised_to))]
 pub fn raised_to(least: f64, x: f64) -> f64
     ensures { result ≡ raised_to least x }
 {

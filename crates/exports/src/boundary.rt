@@ -82,6 +82,7 @@ pub fn no_answer() -> AnswerWords
 }
 
 // What a tick brings to one block.
+#[tactic(auto, unfolding(blocks::specs::Block::inputs_of, crate::specs::Boundary::three_inputs))]
 pub(crate) fn tick_of(time: u64, first: u64, second: u64, third: u64) -> Tick
     ensures { Brings time first second third result }
 {

@@ -4,7 +4,7 @@ ghost use Rattle.dynamics.specs.Answer.{said, answer_of};
 ghost use Rattle.blocks.specs.Block.{real, boolean, both, handed, inputs_of, answer_words};
 
 use controller::ControllerConfig;
-use dynamics::{Inputs, Refusal, Reply};
+use dynamics::{Inputs, Refusal, Reply, handed_out};
 use reals::{word_of, word_of_flag};
 
 // One of eight, each with its own numbers.
@@ -93,12 +93,7 @@ fn both_words(reply: Reply) -> OutputWords
 pub fn answer_words(block: Block, met: Result<Reply, Refusal>) -> OutputWords
     ensures { result ≡ answer_words block (answer_of met) }
 {
-    let Ok(reply) = met else {
-        return OutputWords {
-            first: 0,
-            second: 0,
-        };
-    };
+    let reply = handed_out(met);
     match block {
         Block::Pid(_) | Block::PidWithReset(_) | Block::MovingAverage { .. } => real_words(reply),
         Block::TimerAccumulating { .. } => both_words(reply),

@@ -2,7 +2,7 @@
 use mathlib.Core.Path.{◌≡◌, refl, sym, ap, ◌∙◌}
 use Prim.Native.Nat.{ℕ}
 use Rattle.std.specs.Prelude.{Result, Ok, Err}
-use Rattle.dynamics.specs.Answer.{Answer, Length, number_of, said, answer_of, length_read, Brings}
+use Rattle.dynamics.specs.Answer.{Answer, Length, number_of, said, answer_with, answer_of, length_read, Brings}
 use Rattle.dynamics.specs.Region.{Gives}
 use Rattle.dynamics.specs.declared.call.Reply.{Reply}
 use Rattle.dynamics.specs.declared.refusal.Refusal.{Refusal}
@@ -14,6 +14,7 @@ use Rattle.dynamics.proofs.call.both_answer.Reads as both_answer
 use Rattle.dynamics.proofs.call.real_answer.Reads as real_answer
 use Rattle.dynamics.proofs.call.boolean_answer.Reads as boolean_answer
 use Rattle.dynamics.proofs.call.warning_answer.Reads as warning_answer
+use Rattle.dynamics.proofs.call.handed_out.Reads as handed_out
 use Rattle.dynamics.proofs.leaf.forward_euler_accumulate.Reads as forward_euler_accumulate
 use Rattle.dynamics.proofs.leaf.first_order_filter_implicit.Reads as first_order_filter_implicit
 use Rattle.dynamics.proofs.leaf.positive_duration.Reads as positive_duration
@@ -47,6 +48,9 @@ use Rattle.dynamics.proofs.refusal.test_time.Reads as test_time
 -- ---- what a result says admits one result
 same_said : (a b : Reply) → said a ≡ said b → a ≡ b
 same_said a b e = λ i. record { real = (e i).real; boolean = (e i).boolean; warning = (e i).warning }
+
+same_with : (n : ℕ) (a b : Reply) → answer_with n a ≡ answer_with n b → a ≡ b
+same_with n a b e = λ i. record { real = (e i).real; boolean = (e i).boolean; warning = (e i).warning }
 
 same_answer : (q r : Result Reply Refusal) → answer_of q ≡ answer_of r → q ≡ r
 same_answer (Ok a) (Ok b) e = ap Ok (same_said a b e)
@@ -100,6 +104,9 @@ boolean_answer_once = said_once
 
 pub warning_answer_once : Once warning_answer.Post
 warning_answer_once = said_once
+
+pub handed_out_once : Once handed_out.Post
+handed_out_once = record { alike = λ κs a x y s t p q. same_with (number_of _) x y (p ∙ sym q) }
 
 pub forward_euler_accumulate_once : Once forward_euler_accumulate.Post
 forward_euler_accumulate_once = equation_once

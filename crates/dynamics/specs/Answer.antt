@@ -82,6 +82,10 @@ number_of (Err r) = number r
 abbrev pub said : Reply → Answer
 said a = record { refusal = 0; real = a.real; boolean = a.boolean; warning = a.warning }
 
+-- what is handed out, beside a call's number
+abbrev pub answer_with : ℕ → Reply → Answer
+answer_with n a = record { refusal = n; real = a.real; boolean = a.boolean; warning = a.warning }
+
 abbrev pub answer_of : Result Reply Refusal → Answer
 answer_of (Ok a) = said a
 answer_of (Err r) = silent (number r)

@@ -1,6 +1,8 @@
 // What a call on one block brings, and what it hands out. It is made here and nowhere else.
 ghost use Rattle.std.specs.Prelude.{◌≡◌};
-ghost use Rattle.dynamics.specs.Answer.{silent, answered, emitted, updated, real_output, boolean_output, both_outputs, said};
+ghost use Rattle.dynamics.specs.Answer.{answered, emitted, updated, real_output, boolean_output, both_outputs, said, number_of, answer_with, answer_of};
+
+use crate::refusal::Refusal;
 
 // What a tick brings besides its time; a block reads as many words as it has inputs.
 #[derive(Clone, Copy)]
@@ -57,4 +59,12 @@ pub fn warning_answer(warning: bool) -> Reply
     ensures { said result ≡ updated warning }
 {
     tick_answer(0.0, false, warning)
+}
+
+// What a call hands out: of a refusal 0.0, false and no warning.
+#[tactic(auto, using(reals::proofs::Words::zero_is))]
+pub fn handed_out(met: Result<Reply, Refusal>) -> Reply
+    ensures { answer_with (number_of met) result ≡ answer_of met }
+{
+    met.unwrap_or(warning_answer(false))
 }

@@ -10,7 +10,8 @@ pub mod region;
 pub mod stepped;
 
 pub use call::{
-    Inputs, Reply, boolean_answer, both_answer, real_answer, tick_answer, warning_answer,
+    Inputs, Reply, boolean_answer, both_answer, handed_out, real_answer, tick_answer,
+    warning_answer,
 };
 pub use control::ControlBlock;
 pub use leaf::{

@@ -12,6 +12,8 @@ use Rattle.exports.proofs.calls.oven_tick.Reads as tick
 use Rattle.exports.proofs.calls.oven_run.Reads as run
 use Rattle.exports.proofs.sheets.oven_sheet_start.Reads as sheet_start
 use Rattle.exports.proofs.sheets.oven_sheet_tick.Reads as sheet_tick
+use Rattle.exports.proofs.boundary.AnswerWordsFromResultReplyRefusal.from.Reads as answer_words
+use Rattle.exports.proofs.boundary.LengthWordsFromResultUsizeRefusal.from.Reads as length_words
 use Rattle.exports.proofs.boundary.refused.Reads as refused
 use Rattle.exports.proofs.boundary.no_answer.Reads as no_answer
 use Rattle.exports.proofs.states.no_state.Reads as no_state
@@ -60,6 +62,13 @@ sheet_tick_once = record { alike = λ κs a x y s t p q. (p.answer ∙ sym q.ans
 
 pub sheet_tick_once_said : OnceLeft sheet_tick.Post (λ κs s. s.1.1.1.1.0.now)
 sheet_tick_once_said = record { alike = λ κs a x y s t p q. (p.answer ∙ sym q.answer, p.says ∙ sym q.says) }
+
+-- of what `from` makes of a call
+pub answer_words_once : Once answer_words.Post
+answer_words_once = equation_once
+
+pub length_words_once : Once length_words.Post
+length_words_once = equation_once
 
 pub refused_once : Once refused.Post
 refused_once = equation_once

@@ -1,10 +1,10 @@
 // What crosses to C and Rust: words alone, since compiled code may give a NaN any bits.
 ghost use Rattle.std.specs.Prelude.{◌≡◌};
-ghost use Rattle.dynamics.specs.Answer.{silent, answer_of, length_read};
+ghost use Rattle.dynamics.specs.Answer.{silent, answer_with, answer_of, length_read};
 ghost use Rattle.exports.specs.Boundary.{answer_crossed, length_words, no_block, Brings};
 
 use blocks::Tick;
-use dynamics::{Refusal, Reply};
+use dynamics::{Refusal, Reply, handed_out, number_of, warning_answer};
 use reals::{real_of, word_of, word_of_flag};
 
 // The refusal number of words that name no block.
@@ -28,32 +28,31 @@ pub struct LengthWords {
     pub length: u64,
 }
 
+// What a call hands out, beside its number, in words.
+#[tactic(auto, unfolding(crate::specs::Boundary::answer_crossed))]
+fn crossed(refusal: u64, reply: Reply) -> AnswerWords
+    ensures { result ≡ answer_crossed (answer_with refusal reply) }
+{
+    AnswerWords {
+        refusal,
+        real: word_of(reply.real),
+        boolean: word_of_flag(reply.boolean),
+        warning: word_of_flag(reply.warning),
+    }
+}
+
 // A refusal in words: its number and zeros.
 pub fn refused(refusal: u64) -> AnswerWords
     ensures { result ≡ answer_crossed (silent refusal) }
 {
-    AnswerWords {
-        refusal,
-        real: 0,
-        boolean: 0,
-        warning: 0,
-    }
+    crossed(refusal, warning_answer(false))
 }
 
 impl From<Result<Reply, Refusal>> for AnswerWords {
     ghost from_gives = { λ met w. w ≡ answer_crossed (answer_of met) };
 
-    #[tactic(auto, unfolding(crate::specs::Boundary::answer_crossed))]
     fn from(met: Result<Reply, Refusal>) -> AnswerWords {
-        match met {
-            Ok(reply) => AnswerWords {
-                refusal: 0,
-                real: word_of(reply.real),
-                boolean: word_of_flag(reply.boolean),
-                warning: word_of_flag(reply.warning),
-            },
-            Err(refusal) => refused(refusal.into()),
-        }
+        crossed(number_of(met), handed_out(met))
     }
 }
 

@@ -2,6 +2,7 @@
 pub mod Answer
 pub mod Call
 pub mod Compare
+pub mod Form
 pub mod Line
 pub mod List
 pub mod Region

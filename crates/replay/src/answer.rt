@@ -3,7 +3,7 @@ ghost use Rattle.std.specs.Prelude.{◌≡◌, ◌+◌, ◌≤◌, length};
 ghost use Rattle.dynamics.specs.Answer.{answer_of};
 ghost use Rattle.replay.specs.Answer.{answers_with, stored_at, meets_emit, meets_update, meets_tick};
 
-use dynamics::{Refusal, Reply, number_of, word_at};
+use dynamics::{Refusal, Reply, handed_out, number_of, word_at};
 use reals::{word_of, word_of_flag};
 
 // How many words they are.
@@ -45,11 +45,7 @@ fn answers_with(
 ) -> bool
     ensures { result ≡ answers_with (answer_of met) refusal real boolean warning }
 {
-    let reply = met.unwrap_or(Reply {
-        real: 0.0,
-        boolean: false,
-        warning: false,
-    });
+    let reply = handed_out(met);
     let numbers = (number_of(met) == refusal) & (word_of(reply.real) == real);
     let flags = (word_of_flag(reply.boolean) == boolean) & (word_of_flag(reply.warning) == warning);
     numbers & flags

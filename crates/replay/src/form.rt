@@ -1,5 +1,5 @@
 // How the calls of a block are stored.
-ghost use Rattle.std.specs.Prelude.{◌≤◌};
+ghost use Rattle.std.specs.Prelude.{◌≤◌, ◌≡◌};
 ghost use Rattle.blocks.specs.Named.{controller_settings};
 
 use blocks::CONTROLLER_SETTINGS;
@@ -42,8 +42,12 @@ pub struct Form {
 }
 
 impl Kind {
+    ghost use Rattle.replay.specs.Form.{Sized, file_of};
+
     // Only the moving average has a region of so many words.
-    pub fn form(self) -> Form {
+    pub fn form(self) -> Form
+        ensures { Sized result }
+    {
         let (number, settings, inputs) = match self {
             Kind::Pid => (0, CONTROLLER_SETTINGS, 2),
             Kind::PidWithReset => (1, CONTROLLER_SETTINGS, 3),
@@ -63,7 +67,9 @@ impl Kind {
     }
 
     // The file that has its calls.
-    pub fn file(self) -> &'static str {
+    pub fn file(self) -> &'static str
+        ensures { result.now ≡ file_of self }
+    {
         match self {
             Kind::Pid => "Pid.txt",
             Kind::PidWithReset => "PidWithReset.txt",

@@ -5,9 +5,9 @@ ghost use Rattle.replay.specs.List.{told};
 use crate::compare::Differs;
 use crate::list::Tally;
 
-// A block's line. Its name is the file's up to its dot.
+// A block's line. Its name is the file's up to its first dot.
 pub fn print_tally(rt: &impl Print, file: &str, tally: Tally) {
-    let name = file.strip_suffix(".txt").unwrap_or(file);
+    let name = file.split_once('.').map_or(file, |(name, _)| name);
     let _ = println!(rt; "{name} {tally}");
 }
 

@@ -51,7 +51,7 @@ fn run_ticks(block: Block, ticks: &[u64], region: &mut [u64], answers: &mut [u64
     ensures region_after { region.new ≡ ran_words (machine_of block) region.old (asked ticks.now) }
     ensures answers_after { answers.new ≡ ran_answers (machine_of block) region.old (asked ticks.now) }
 {
-    each_block!(block, own => run_block(&own, ticks, region, answers));
+    each_block!(block, own => run_block(own, ticks, region, answers));
 }
 
 // Tests 2 and 3, as of a start.

@@ -4,7 +4,7 @@ ghost use Rattle.std.proofs.lemmas.List.Edits.{sets};
 ghost use Rattle.dynamics.specs.Answer.{answer_of};
 ghost use Rattle.runs.specs.Run.{words_per_answer, ticks_in, asked_at, answer_in_words};
 
-use dynamics::{Inputs, Refusal, Reply};
+use dynamics::{Inputs, Refusal, Reply, handed_out, number_of};
 use reals::{real_of, word_of, word_of_flag};
 
 // How many words a tick has, and how many its answer.
@@ -39,15 +39,13 @@ pub(crate) fn asked_at(ticks: &[u64], n: usize) -> Asked
 fn answer_words(met: Result<Reply, Refusal>) -> [u64; WORDS_PER_ANSWER]
     ensures { result ≡ answer_in_words (answer_of met) }
 {
-    match met {
-        Ok(reply) => [
-            0,
-            word_of(reply.real),
-            word_of_flag(reply.boolean),
-            word_of_flag(reply.warning),
-        ],
-        Err(refusal) => [refusal.into(), 0, 0, 0],
-    }
+    let reply = handed_out(met);
+    [
+        number_of(met),
+        word_of(reply.real),
+        word_of_flag(reply.boolean),
+        word_of_flag(reply.warning),
+    ]
 }
 
 // Writes the answer of this number, from 0.

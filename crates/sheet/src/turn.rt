@@ -8,7 +8,7 @@ use crate::row::Row;
 use crate::seen::{INPUT_WORDS, MOST_ROWS, ROW_ANSWERS, Seen};
 use crate::walk::Walk;
 use blocks::{answer_words, state_length};
-use dynamics::{Refusal, Reply, number_of};
+use dynamics::{Refusal, Reply, handed_out, number_of};
 
 // Columns below this name the input words; from here on they name the answer words, so many for each row.
 const INPUT_COLUMNS: u64 = INPUT_WORDS as u64;
@@ -53,10 +53,7 @@ fn number_in(met: Result<Reply, Refusal>) -> u64
 fn warning_in(met: Result<Reply, Refusal>) -> bool
     ensures { result ≡ (answer_of met).warning }
 {
-    match met {
-        Ok(reply) => reply.warning,
-        Err(_) => false,
-    }
+    handed_out(met).warning
 }
 
 // Tests 1 and 2, and that the row's words lie in the region: test 3, but for words left over. Where they end is noted.

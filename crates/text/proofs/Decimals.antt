@@ -57,6 +57,16 @@ digits_last : (s : List ℕ) (d : ℕ) → AllDigits s → 48 ≤ d → d < 58 �
 digits_last [] d h l u = (l, u, tt)
 digits_last (e ∷ s) d h l u = (h.0, h.1, digits_last s d h.2 l u)
 
+pub all_digits : (k n : ℕ) → AllDigits (decimal_of k n)
+unfolding decimal_of
+all_digits zero n = tt
+all_digits (suc k) n = go (ltb n 10) refl (all_digits k (n / 10))
+  where
+    go : (t : Bool) → ltb n 10 ≡ t → AllDigits (decimal_of k (n / 10))
+        → AllDigits (cond t ((48 + n) ∷ []) (decimal_of k (n / 10) ++ ((48 + n % 10) ∷ [])))
+    go true e h = let l = ltb-true n 10 e in (omega arith, omega arith, tt)
+    go false e h = digits_last (decimal_of k (n / 10)) (48 + n % 10) h (omega arith) (omega arith)
+
 first_stays : (s t : List ℕ) → 48 < get_or s 0 0 → 48 < get_or (s ++ t) 0 0
 first_stays [] t h = absurd (omega arith)
 first_stays (d ∷ s) t h = h

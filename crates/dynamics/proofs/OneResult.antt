@@ -46,14 +46,11 @@ use Rattle.dynamics.proofs.refusal.test_form.Reads as test_form
 use Rattle.dynamics.proofs.refusal.test_time.Reads as test_time
 
 -- ---- what a result says admits one result
-same_said : (a b : Reply) → said a ≡ said b → a ≡ b
-same_said a b e = λ i. record { real = (e i).real; boolean = (e i).boolean; warning = (e i).warning }
-
 same_with : (n : ℕ) (a b : Reply) → answer_with n a ≡ answer_with n b → a ≡ b
 same_with n a b e = λ i. record { real = (e i).real; boolean = (e i).boolean; warning = (e i).warning }
 
 same_answer : (q r : Result Reply Refusal) → answer_of q ≡ answer_of r → q ≡ r
-same_answer (Ok a) (Ok b) e = ap Ok (same_said a b e)
+same_answer (Ok a) (Ok b) e = ap Ok (same_with 0 a b e)
 same_answer (Ok a) (Err r) e = absurd (some_number r (sym (ap (λ (x : Answer). x.refusal) e)))
 same_answer (Err r) (Ok b) e = absurd (some_number r (ap (λ (x : Answer). x.refusal) e))
 same_answer (Err q) (Err r) e = ap Err (same_refusal q r (ap (λ (x : Answer). x.refusal) e))
@@ -71,7 +68,7 @@ units (Err r) (Ok x) e = absurd (some_number r e)
 units (Err q) (Err r) e = ap Err (same_refusal q r e)
 
 said_once : {K : Type 0} {D : K → Type 0} {E : K → Type 0} {f : (κs : K) → D κs → Answer} → Once {K = K} {D = D} {R = Reply} {E = E} (λ κs a r e. said r ≡ f κs a)
-said_once = record { alike = λ κs a x y s t p q. same_said x y (p ∙ sym q) }
+said_once = record { alike = λ κs a x y s t p q. same_with 0 x y (p ∙ sym q) }
 
 pub answer_once : {K : Type 0} {D : K → Type 0} {E : K → Type 0} {f : (κs : K) → D κs → Answer}
     → Once {K = K} {D = D} {R = Result Reply Refusal} {E = E} (λ κs a r e. answer_of r ≡ f κs a)

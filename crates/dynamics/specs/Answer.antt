@@ -78,13 +78,13 @@ abbrev pub number_of : {X : Type 0} → Result X Refusal → ℕ
 number_of (Ok x) = 0
 number_of (Err r) = number r
 
--- what a call's result says: what was handed out, or with a refusal its number and zeros
-abbrev pub said : Reply → Answer
-said a = record { refusal = 0; real = a.real; boolean = a.boolean; warning = a.warning }
-
 -- what is handed out, beside a call's number
 abbrev pub answer_with : ℕ → Reply → Answer
 answer_with n a = record { refusal = n; real = a.real; boolean = a.boolean; warning = a.warning }
+
+-- what a call's result says: what was handed out, or with a refusal its number and zeros
+abbrev pub said : Reply → Answer
+said a = answer_with 0 a
 
 abbrev pub answer_of : Result Reply Refusal → Answer
 answer_of (Ok a) = said a
